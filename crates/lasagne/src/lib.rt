@@ -1,0 +1,10 @@
+//! The translator: its top call, and for now the passes and definitions that will have crates of their own.
+//! Others rest on `run`, whose clauses say what each status leaves and what an image carries.
+//! Sources: System V gABI chapters 4 and 5 for files; Intel SDM volume 2 and Arm ARM DDI 0487 for instructions.
+#![tactic(auto)]
+
+mod elf_parts;
+mod image;
+mod symbols;
+
+pub use image::{Image, ImageSegment};
