@@ -1,1 +1,6 @@
 pub mod Tables
+pub mod Reading
+pub mod ReadParts
+pub mod ReadImage
+pub mod ReadThreads
+pub mod ReadSymbols

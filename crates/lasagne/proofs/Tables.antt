@@ -7,7 +7,6 @@ use Rattle.byteorder.specs.Endian.{little_bytes}
 use Rattle.byteorder.specs.Numbers.{length-bytes_low_first}
 use Rattle.lasagne.specs.declared.elf_parts.Symbol.{Symbol}
 use Rattle.lasagne.specs.Bytes.{padded}
-
 use Rattle.lasagne.specs.declared.elf_parts.ProgramHeader.{ProgramHeader}
 use Rattle.lasagne.specs.declared.image.ImageSegment.{ImageSegment}
 use Rattle.lasagne.specs.Image.{segment_part}
@@ -76,7 +75,7 @@ pub front_built : (h first second third fourth : List ℕ) (ps : List Part) (q :
 front_built h first second third fourth ps q end start one two three four =
     let last = program_headers (end_of end ps) (q ∷ []) in
     let headers : second ≡ h ++ program_headers end (ps ++ q ∷ []) =
-        two ∙ ap (λ f. f ++ last) one ∙ append_assoc h (program_headers end ps) last ∙ ap (λ b. h ++ b) (sym (program_headers-append ps (q ∷ []) end)) in
+    two ∙ ap (λ f. f ++ last) one ∙ append_assoc h (program_headers end ps) last ∙ ap (λ b. h ++ b) (sym (program_headers-append ps (q ∷ []) end)) in
     four ∙ ap (λ t. with_parts t (q ∷ [])) (three ∙ ap (λ s. with_parts s ps) headers)
     ∙ sym (with_parts-append ps (q ∷ []) (h ++ program_headers end (ps ++ q ∷ [])))
     ∙ ap (λ e. with_parts (h ++ program_headers e (ps ++ q ∷ [])) (ps ++ q ∷ [])) start
@@ -119,7 +118,7 @@ pub tables_built : (old a b c sections first second third fourth fifth last : Li
     → last ≡ padded (padded old at ++ (a ++ (b ++ c))) to ++ sections
 tables_built old a b c sections first second third fourth fifth last at to one two three four five six =
     let tables : fourth ≡ padded old at ++ (a ++ (b ++ c)) =
-        appended_3 (padded old at) a b c second third fourth (two ∙ ap (λ (l : List ℕ). l ++ a) one) three four in
+    appended_3 (padded old at) a b c second third fourth (two ∙ ap (λ (l : List ℕ). l ++ a) one) three four in
     six ∙ ap (λ (l : List ℕ). l ++ sections) (five ∙ ap (λ (l : List ℕ). padded l to) tables)
 
 -- front, tables and section headers are the file

@@ -7,10 +7,11 @@ use Rattle.lasagne.specs.Bytes.{number_at, range_at}
 -- the segment whose program header stands at this offset
 abbrev pub segment_at : List ℕ → ℕ → Part
 segment_at bytes offset = record {
-    address = number_at bytes (offset + 16) 8;
-    size = number_at bytes (offset + 40) 8;
-    flags = number_at bytes (offset + 4) 4;
-    bytes = range_at bytes (number_at bytes (offset + 8) 8) (number_at bytes (offset + 32) 8) }
+  address = number_at bytes (offset + 16) 8;
+  size = number_at bytes (offset + 40) 8;
+  flags = number_at bytes (offset + 4) 4;
+  bytes = range_at bytes (number_at bytes (offset + 8) 8) (number_at bytes (offset + 32) 8);
+}
 
 -- the PT_LOAD entries (type 1) among `count` program headers from this offset on, in order
 abbrev pub segments_from : List ℕ → ℕ → ℕ → List Part
@@ -57,7 +58,7 @@ abbrev pub symbol_value : List ℕ → List ℕ → Option ℕ → Option ℕ
 symbol_value bytes name None = None
 symbol_value bytes name (Some offset) =
     value_from name (section_bytes bytes offset) (section_bytes bytes (number_at bytes 40 8 + 64 * number_at bytes (offset + 40) 4)) 0
-        (number_at bytes (offset + 32) 8 / 24)
+    (number_at bytes (offset + 32) 8 / 24)
 
 -- where the listed symbol of this name is
 abbrev pub address_of : List ℕ → List ℕ → Option ℕ

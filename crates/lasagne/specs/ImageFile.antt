@@ -54,10 +54,11 @@ parts_at parts = 64 + 56 * length parts
 -- the section names directly after one another, and the section headers at the next multiple of 8
 abbrev pub places_from : ℕ → ℕ → ℕ → Places
 places_from end symbols strings = record {
-    symbols = rounded_up 8 end;
-    strings = rounded_up 8 end + symbols;
-    names = rounded_up 8 end + symbols + strings;
-    sections = rounded_up 8 (rounded_up 8 end + symbols + strings + length section_names) }
+  symbols = rounded_up 8 end;
+  strings = rounded_up 8 end + symbols;
+  names = rounded_up 8 end + symbols + strings;
+  sections = rounded_up 8 (rounded_up 8 end + symbols + strings + length section_names);
+}
 
 -- the places of an image's file
 abbrev pub places_of : List Part → List ℕ → Places
@@ -67,7 +68,13 @@ places_of parts threads =
 -- an executable file for AArch64 (machine 183) that begins at thread 0
 abbrev pub image_header : List Part → List ℕ → FileHeader
 image_header parts threads = record {
-    machine = 183; entry = slice_index threads 0; sections_at = (places_of parts threads).sections; segment_count = length parts; section_count = 4; names_section = 3 }
+  machine = 183;
+  entry = slice_index threads 0;
+  sections_at = (places_of parts threads).sections;
+  segment_count = length parts;
+  section_count = 4;
+  names_section = 3;
+}
 
 -- the four section headers: an empty one, symbols, their names, and the names of the sections
 abbrev pub image_sections : Places → ℕ → ℕ → List ℕ

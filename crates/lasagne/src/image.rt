@@ -6,8 +6,8 @@ ghost use Rattle.lasagne.specs.ImageFile.{places_from, parts_at, image_header, i
 ghost use Rattle.lasagne.specs.ElfParts.{file_header, program_header, section_header, symbol_section, string_section, symbol_table, string_table};
 
 use crate::elf_parts::{
-    FileHeader, ProgramHeader, SectionHeader, pad_to, push_file_header,
-    push_program_header, push_section_header, push_zeros,
+    FileHeader, ProgramHeader, SectionHeader, pad_to, push_file_header, push_program_header,
+    push_section_header, push_zeros,
 };
 use crate::symbols::{push_string_table, push_symbol_table, thread_symbols};
 use byteorder::{ByteOrder, LittleEndian};
@@ -216,7 +216,10 @@ fn push_sections(
         },
     )?;
     push_section_header(out, string_section(9, places.strings, strings as u64))?;
-    push_section_header(out, string_section(17, places.names, SECTION_NAMES.len() as u64))?;
+    push_section_header(
+        out,
+        string_section(17, places.names, SECTION_NAMES.len() as u64),
+    )?;
     Ok(())
 }
 

@@ -22,7 +22,10 @@ pub fn thread_symbols(alloc: Global, threads: &[u64]) -> Result<Vec<Symbol>, All
     let mut symbols = Vec::new(alloc);
     for (number, address) in threads.iter().enumerate() {
         let name = thread_name(alloc, number)?;
-        symbols.push(Symbol { name, address: *address })?;
+        symbols.push(Symbol {
+            name,
+            address: *address,
+        })?;
     }
     Ok(symbols)
 }

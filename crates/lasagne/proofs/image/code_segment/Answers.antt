@@ -7,4 +7,4 @@ use Rattle.lasagne.proofs.image.code_segment.Goals as goal
 pub returns : goal.returns
 returns c =
     code_made c.args.image.now.code_address _ _ c.args.image.now.words c.as_slice-2.ensures
-        (c.of-bytes.ensures ∙ c.in_ok-code_bytes.ensures ∙ ap (λ (words : List ℕ). flat_map (little_bytes 4) words) c.as_slice.ensures)
+    (c.of-bytes.ensures ∙ c.in_ok-code_bytes.ensures ∙ ap (λ (words : List ℕ). flat_map (little_bytes 4) words) c.as_slice.ensures)

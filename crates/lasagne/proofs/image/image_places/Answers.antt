@@ -11,7 +11,7 @@ returns c =
     let q = segment_part c.args.code.now in
     let start : 64 + 56 * (length c.args.segments.now + 1) ≡ parts_at (ps ++ q ∷ []) = simp (length-append, length-map) (omega arith) in
     let size : c.in_ok-end.end ≡ c.in_ok-code_at.code_at + length q.bytes =
-        c.in_ok-end.ensures ∙ ap (λ (bytes : List ℕ). c.in_ok-code_at.code_at + length bytes) c.as_slice.ensures in
+    c.in_ok-end.ensures ∙ ap (λ (bytes : List ℕ). c.in_ok-code_at.code_at + length bytes) c.as_slice.ensures in
     let ends : c.in_ok-end.end ≡ end_of (parts_at (ps ++ q ∷ [])) (ps ++ q ∷ []) = end_with_last ps q (64 + 56 * (length c.args.segments.now + 1)) c.in_ok-parts_end.field-0 c.in_ok-code_at.code_at c.in_ok-end.end start c.in_ok-parts_end.ensures c.in_ok-code_at.ensures size in
     c.in_ok-places.ensures
     ∙ ap (λ (end : ℕ). places_from end (length c.as_slice-symbols.result.now) (length c.as_slice-strings.result.now)) ends

@@ -15,8 +15,8 @@ returns c =
     let count : length c.as_slice-segments.result.now + 1 ≡ length (ps ++ q ∷ []) = simp (length-append, length-map) (omega arith) in
     let first : c.as_slice-threads.result.now ≡ c.args.image.now.threads = c.as_slice-threads.ensures in
     let written = file_written (ps ++ q ∷ []) c.as_slice-threads.result.now c.in_ok-tables.tables.symbols c.in_ok-tables.tables.strings c.in_ok-out.out.items _
-        c.in_ok-places.places (slice_index c.as_slice-threads.result.now 0) (length c.as_slice-segments.result.now + 1)
-        c.in_ok-tables.ensures.symbols c.in_ok-tables.ensures.strings c.in_ok-places.ensures refl count c.in_ok-out.ensures c.in_ok-push_tables.ensures in
+    c.in_ok-places.places (slice_index c.as_slice-threads.result.now 0) (length c.as_slice-segments.result.now + 1)
+    c.in_ok-tables.ensures.symbols c.in_ok-tables.ensures.strings c.in_ok-places.ensures refl count c.in_ok-out.ensures c.in_ok-push_tables.ensures in
     written
     ∙ ap (λ (segments : List ImageSegment). image_file (map segment_part segments ++ q ∷ []) c.as_slice-threads.result.now) c.as_slice-segments.ensures
     ∙ ap (λ (code : Part). image_file (map segment_part c.args.image.now.segments ++ code ∷ []) c.as_slice-threads.result.now) c.in_ok-code.ensures

@@ -1,0 +1,91 @@
+-- An image's file says the parts and threads that it was written for.
+use Rattle.std.proofs.Common.{◌≡◌, ℕ, ◌+◌, ◌-◌, ◌*◌, ◌/◌, ◌^◌, ◌<◌, ◌≤◌, zero, suc, List, [], ◌∷◌, ◌++◌, length, drop, take, arith, sym, ◌∙◌, ap, refl, subst, append_assoc, append-nil, length-append}
+use Rattle.std.specs.Prelude.{replicate}
+use Rattle.byteorder.specs.Endian.{little_bytes, little_number}
+use Rattle.byteorder.specs.Numbers.{little_number-reads_back}
+use Rattle.ev_graph.specs.Memory.{Part}
+use Rattle.lasagne.specs.declared.elf_parts.FileHeader.{FileHeader}
+use Rattle.lasagne.specs.Bytes.{number_at, range_at, padded, rounded_up}
+use Rattle.lasagne.specs.ElfParts.{file_header, program_header, symbol_table, string_table}
+use Rattle.lasagne.specs.ElfFile.{segments_from, segments_of}
+use Rattle.lasagne.specs.ImageFile.{offset_after, end_of, header_of, program_headers, with_parts, parts_at, front_of, image_front, image_header, image_file, image_tables, image_sections, places_of, thread_symbols}
+use Rattle.lasagne.proofs.Reading.{length-padded, number_there}
+use Rattle.lasagne.proofs.ReadParts.{Begins, begins_more, begins_shorter, begins_with_parts, AllFit, AreHeld, parts_held, segments_read, length-padded_to_offset}
+
+-- the fields of the header
+pub header_segments_at : (h : FileHeader) (rest : List ℕ) → number_at (file_header h ++ rest) 32 8 ≡ 64
+header_segments_at h rest = refl
+
+pub header_sections_at : (h : FileHeader) (rest : List ℕ) → h.sections_at < 2 ^ 64 → number_at (file_header h ++ rest) 40 8 ≡ h.sections_at
+header_sections_at h rest fits = little_number-reads_back 8 h.sections_at [] fits
+
+pub header_segment_count : (h : FileHeader) (rest : List ℕ) → h.segment_count < 2 ^ 16 → number_at (file_header h ++ rest) 56 2 ≡ h.segment_count
+header_segment_count h rest fits = little_number-reads_back 2 h.segment_count [] fits
+
+pub header_section_count : (h : FileHeader) (rest : List ℕ) → h.section_count < 2 ^ 16 → number_at (file_header h ++ rest) 60 2 ≡ h.section_count
+header_section_count h rest fits = little_number-reads_back 2 h.section_count [] fits
+
+-- the file begins with its front, and that with the header and the program headers
+pub image_begins : (parts : List Part) (threads : List ℕ) → Begins (image_front parts threads) (image_file parts threads)
+image_begins parts threads =
+    let front = image_front parts threads in
+    let padded_once = padded front (places_of parts threads).symbols in
+    begins_more front (padded (padded_once ++ image_tables threads) (places_of parts threads).sections) _
+    (begins_more front (padded_once ++ image_tables threads) _
+    (begins_more front padded_once (image_tables threads)
+    (begins_more front front _ (record { rest = []; whole = sym (append-nil front) }))))
+
+pub headers_begin : (parts : List Part) (threads : List ℕ)
+    → Begins (file_header (image_header parts threads) ++ program_headers (parts_at parts) parts) (image_file parts threads)
+headers_begin parts threads =
+    let headers = file_header (image_header parts threads) ++ program_headers (parts_at parts) parts in
+    let b = image_begins parts threads in
+    let inner : Begins headers (image_front parts threads) = begins_with_parts parts headers headers (record { rest = []; whole = sym (append-nil headers) }) in
+    record { rest = inner.rest ++ b.rest; whole = b.whole ∙ ap (λ l. l ++ b.rest) inner.whole ∙ append_assoc headers inner.rest b.rest }
+
+pub length-program_headers : (parts : List Part) (end : ℕ) → length (program_headers end parts) ≡ 56 * length parts
+length-program_headers [] end = refl
+length-program_headers (part ∷ parts) end =
+    let rest = length-program_headers parts (offset_after end part.address + length part.bytes) in
+    omega (arith, length-append (program_header (header_of (offset_after end part.address) part)) (program_headers (offset_after end part.address + length part.bytes) parts), rest)
+
+-- the headers take 64 bytes and 56 for each part
+pub length-headers : (parts : List Part) (threads : List ℕ)
+    → length (file_header (image_header parts threads) ++ program_headers (parts_at parts) parts) ≡ parts_at parts
+length-headers parts threads =
+    let long = length-program_headers parts (parts_at parts) in
+    length-append (file_header (image_header parts threads)) (program_headers (parts_at parts) parts) ∙ ap (λ n. 64 + n) long
+
+-- the segments that the image's file says are the parts
+pub segments_of_image : (parts : List Part) (threads : List ℕ) → length parts < 2 ^ 16 → AllFit (parts_at parts) parts
+    → segments_of (image_file parts threads) ≡ parts
+segments_of_image parts threads few fit =
+    let bytes = image_file parts threads in
+    let h = image_header parts threads in
+    let headers = file_header h ++ program_headers (parts_at parts) parts in
+    let b = headers_begin parts threads in
+    let whole : bytes ≡ file_header h ++ (program_headers (parts_at parts) parts ++ b.rest) = b.whole ∙ append_assoc (file_header h) (program_headers (parts_at parts) parts) b.rest in
+    let rest = program_headers (parts_at parts) parts ++ b.rest in
+    let at : number_at bytes 32 8 ≡ 64 = ap (λ l. number_at l 32 8) whole ∙ header_segments_at h rest in
+    let count : number_at bytes 56 2 ≡ length parts = ap (λ l. number_at l 56 2) whole ∙ header_segment_count h rest few in
+    let front = image_begins parts threads in
+    let held : AreHeld bytes (parts_at parts) parts =
+    subst (λ l. AreHeld l (parts_at parts) parts) (sym front.whole)
+    (subst (λ n. AreHeld (with_parts headers parts ++ front.rest) n parts) (length-headers parts threads) (parts_held parts headers front.rest)) in
+    ap (λ n. segments_from bytes n (number_at bytes 56 2)) at ∙ ap (λ n. segments_from bytes 64 n) count
+    ∙ segments_read parts bytes (file_header h) b.rest (parts_at parts) 64 whole refl fit held
+
+-- where the parts' bytes end in the front
+pub length-with_parts : (parts : List Part) (front : List ℕ) → length (with_parts front parts) ≡ end_of (length front) parts
+length-with_parts [] front = refl
+length-with_parts (part ∷ parts) front =
+    let offset = offset_after (length front) part.address in
+    let pad = padded front offset in
+    let long : length (pad ++ part.bytes) ≡ offset + length part.bytes =
+    length-append pad part.bytes ∙ ap (λ n. n + length part.bytes) (length-padded_to_offset front part.address) in
+    length-with_parts parts (pad ++ part.bytes) ∙ ap (λ n. end_of n parts) long
+
+pub length-image_front : (parts : List Part) (threads : List ℕ) → length (image_front parts threads) ≡ end_of (parts_at parts) parts
+length-image_front parts threads =
+    length-with_parts parts (file_header (image_header parts threads) ++ program_headers (parts_at parts) parts)
+    ∙ ap (λ n. end_of n parts) (length-headers parts threads)
