@@ -4,3 +4,4 @@ pub mod ReadParts
 pub mod ReadImage
 pub mod ReadThreads
 pub mod ReadSymbols
+pub mod Built

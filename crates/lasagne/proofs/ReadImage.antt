@@ -10,7 +10,7 @@ use Rattle.lasagne.specs.ElfParts.{file_header, program_header, symbol_table, st
 use Rattle.lasagne.specs.ElfFile.{segments_from, segments_of}
 use Rattle.lasagne.specs.ImageFile.{offset_after, end_of, header_of, program_headers, with_parts, parts_at, front_of, image_front, image_header, image_file, image_tables, image_sections, places_of, thread_symbols}
 use Rattle.lasagne.proofs.Reading.{length-padded, number_there}
-use Rattle.lasagne.proofs.ReadParts.{Begins, begins_more, begins_shorter, begins_with_parts, AllFit, AreHeld, parts_held, segments_read, length-padded_to_offset}
+use Rattle.lasagne.proofs.ReadParts.{Begins, begins_self, begins_more, begins_shorter, begins_with_parts, AllFit, AreHeld, parts_held, segments_read, length-padded_to_offset}
 
 -- the fields of the header
 pub header_segments_at : (h : FileHeader) (rest : List ℕ) → number_at (file_header h ++ rest) 32 8 ≡ 64
@@ -33,14 +33,14 @@ image_begins parts threads =
     begins_more front (padded (padded_once ++ image_tables threads) (places_of parts threads).sections) _
     (begins_more front (padded_once ++ image_tables threads) _
     (begins_more front padded_once (image_tables threads)
-    (begins_more front front _ (record { rest = []; whole = sym (append-nil front) }))))
+    (begins_more front front _ (begins_self front))))
 
 pub headers_begin : (parts : List Part) (threads : List ℕ)
     → Begins (file_header (image_header parts threads) ++ program_headers (parts_at parts) parts) (image_file parts threads)
 headers_begin parts threads =
     let headers = file_header (image_header parts threads) ++ program_headers (parts_at parts) parts in
     let b = image_begins parts threads in
-    let inner : Begins headers (image_front parts threads) = begins_with_parts parts headers headers (record { rest = []; whole = sym (append-nil headers) }) in
+    let inner : Begins headers (image_front parts threads) = begins_with_parts parts headers headers (begins_self headers) in
     record { rest = inner.rest ++ b.rest; whole = b.whole ∙ ap (λ l. l ++ b.rest) inner.whole ∙ append_assoc headers inner.rest b.rest }
 
 pub length-program_headers : (parts : List Part) (end : ℕ) → length (program_headers end parts) ≡ 56 * length parts

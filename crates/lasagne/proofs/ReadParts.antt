@@ -17,6 +17,9 @@ pub record Begins (front bytes : List ℕ) : Type 0 where
   pub rest : List ℕ
   pub whole : bytes ≡ front ++ rest
 
+pub begins_self : (bytes : List ℕ) → Begins bytes bytes
+begins_self bytes = record { rest = []; whole = sym (append-nil bytes) }
+
 pub begins_more : (front bytes more : List ℕ) → Begins front bytes → Begins front (bytes ++ more)
 begins_more front bytes more b = record { rest = b.rest ++ more; whole = rw (b.whole, append_assoc) refl }
 
@@ -128,6 +131,6 @@ parts_held (part ∷ parts) front more =
     let next = pad ++ part.bytes in
     let bytes = with_parts next parts ++ more in
     let long : length pad ≡ offset = length-padded_to_offset front part.address in
-    let begun : Begins next bytes = begins_more next (with_parts next parts) more (begins_with_parts parts next next (record { rest = []; whole = sym (append-nil next) })) in
+    let begun : Begins next bytes = begins_more next (with_parts next parts) more (begins_with_parts parts next next (begins_self next)) in
     let after : length next ≡ offset + length part.bytes = length-append pad part.bytes ∙ ap (λ n. n + length part.bytes) long in
     (range_between bytes pad part.bytes offset begun (sym long), subst (λ n. AreHeld bytes n parts) after (parts_held parts next more))

@@ -26,10 +26,10 @@ pub section_size : (s : SectionHeader) (rest : List ℕ) → s.size < 2 ^ 64 →
 section_size s rest fits = little_number-reads_back 8 s.size [] fits
 
 -- a section's bytes are read where its header says
-pub section_read : (bytes xs rest : List ℕ) (place offset : ℕ) (s : SectionHeader) (contents : List ℕ)
+pub section_read : (bytes xs rest : List ℕ) (place : ℕ) (s : SectionHeader) (contents : List ℕ)
     → bytes ≡ xs ++ (section_header s ++ rest) → place ≡ length xs → s.offset < 2 ^ 64 → s.size < 2 ^ 64 → s.size ≡ length contents
     → range_at bytes s.offset (length contents) ≡ contents → section_bytes bytes place ≡ contents
-section_read bytes xs rest place offset s contents whole here low short sized held =
+section_read bytes xs rest place s contents whole here low short sized held =
     let at : number_at bytes (place + 24) 8 ≡ s.offset = number_there bytes xs (section_header s ++ rest) place 24 8 whole here ∙ section_offset s rest low in
     let size : number_at bytes (place + 32) 8 ≡ length contents = number_there bytes xs (section_header s ++ rest) place 32 8 whole here ∙ section_size s rest short ∙ sized in
     ap (λ o. range_at bytes o (number_at bytes (place + 32) 8)) at ∙ ap (λ n. range_at bytes s.offset n) size ∙ held
@@ -91,47 +91,52 @@ strings_held parts threads =
     (places_of parts threads).strings (begins_second base t (string_table (thread_symbols 0 threads)) section_names _ _)
     (sym (length-append base t ∙ ap (λ n. n + length t) (length-base parts threads)))
 
--- bytes that end in section headers as an image's do: the symbol table's is found
-pub symbol_section_found : (bytes xs : List ℕ) (place : ℕ) (places : Places) (t n : ℕ)
-    → bytes ≡ xs ++ image_sections places t n → place ≡ length xs → symbol_section_from bytes place 4 ≡ Some (place + 64)
-symbol_section_found bytes xs place places t n whole here =
-    let tail = section_header (symbol_section 1 places.symbols t)
-    ++ (section_header (string_section 9 places.strings n) ++ section_header (string_section 17 places.names (length section_names))) in
-    let empty : number_at bytes (place + 4) 4 ≡ 0 = number_there bytes xs (image_sections places t n) place 4 4 whole here in
+-- section headers: an empty one, those of a symbol table and its string table, and others
+abbrev pub tables_sections : (name at size name' at' size' : ℕ) → List ℕ → List ℕ
+tables_sections name at size name' at' size' others =
+    replicate 64 0 ++ (section_header (symbol_section name at size) ++ (section_header (string_section name' at' size') ++ others))
+
+-- bytes that end in such section headers: the symbol table's is found
+pub symbol_section_found : (bytes xs others : List ℕ) (place count name at size name' at' size' : ℕ)
+    → bytes ≡ xs ++ tables_sections name at size name' at' size' others → place ≡ length xs
+    → symbol_section_from bytes place (suc (suc count)) ≡ Some (place + 64)
+symbol_section_found bytes xs others place count name at size name' at' size' whole here =
+    let tail = section_header (symbol_section name at size) ++ (section_header (string_section name' at' size') ++ others) in
+    let empty : number_at bytes (place + 4) 4 ≡ 0 = number_there bytes xs (replicate 64 0 ++ tail) place 4 4 whole here in
     let shifted : bytes ≡ (xs ++ replicate 64 0) ++ tail = whole ∙ sym (append_assoc xs (replicate 64 0) tail) in
     let placed : place + 64 ≡ length (xs ++ replicate 64 0) = ap (λ k. k + 64) here ∙ sym (length-append xs (replicate 64 0)) in
     let kind : number_at bytes (place + 64 + 4) 4 ≡ 2 = number_there bytes (xs ++ replicate 64 0) tail (place + 64) 4 4 shifted placed in
-    ap (λ k. if k == 2 then Some place else symbol_section_from bytes (place + 64) 3) empty
-    ∙ ap (λ k. if k == 2 then Some (place + 64) else symbol_section_from bytes (place + 64 + 64) 2) kind
+    ap (λ k. if k == 2 then Some place else symbol_section_from bytes (place + 64) (suc count)) empty
+    ∙ ap (λ k. if k == 2 then Some (place + 64) else symbol_section_from bytes (place + 64 + 64) count) kind
 
 two_on : (place at link : ℕ) → at ≡ place → link ≡ 2 → at + 64 * link ≡ place + 64 + 64
 two_on place at link here two = omega (arith, here, two)
 
 -- a name is looked up in the tables that the section headers name
-pub symbol_value_found : (name bytes xs t n : List ℕ) (place : ℕ) (places : Places)
-    → bytes ≡ xs ++ image_sections places (length t) (length n) → place ≡ length xs → number_at bytes 40 8 ≡ place
-    → places.symbols < 2 ^ 64 → places.strings < 2 ^ 64 → length t < 2 ^ 64 → length n < 2 ^ 64
-    → range_at bytes places.symbols (length t) ≡ t → range_at bytes places.strings (length n) ≡ n
+pub symbol_value_found : (name bytes xs others t n : List ℕ) (place symbols_name symbols_at strings_name strings_at : ℕ)
+    → bytes ≡ xs ++ tables_sections symbols_name symbols_at (length t) strings_name strings_at (length n) others
+    → place ≡ length xs → number_at bytes 40 8 ≡ place
+    → symbols_at < 2 ^ 64 → strings_at < 2 ^ 64 → length t < 2 ^ 64 → length n < 2 ^ 64
+    → range_at bytes symbols_at (length t) ≡ t → range_at bytes strings_at (length n) ≡ n
     → symbol_value bytes name (Some (place + 64)) ≡ value_from name t n 0 (length t / 24)
-symbol_value_found name bytes xs t n place places whole here table low_t low_n short_t short_n held_t held_n =
+symbol_value_found name bytes xs others t n place symbols_name symbols_at strings_name strings_at whole here table low_t low_n short_t short_n held_t held_n =
     let empty = replicate 64 0 in
-    let first = symbol_section 1 places.symbols (length t) in
-    let second = string_section 9 places.strings (length n) in
-    let third = section_header (string_section 17 places.names (length section_names)) in
-    let tail = section_header first ++ (section_header second ++ third) in
+    let first = symbol_section symbols_name symbols_at (length t) in
+    let second = string_section strings_name strings_at (length n) in
+    let tail = section_header first ++ (section_header second ++ others) in
     let shifted : bytes ≡ (xs ++ empty) ++ tail = whole ∙ sym (append_assoc xs empty tail) in
     let placed : place + 64 ≡ length (xs ++ empty) = ap (λ k. k + 64) here ∙ sym (length-append xs empty) in
-    let again : bytes ≡ ((xs ++ empty) ++ section_header first) ++ (section_header second ++ third) =
-    shifted ∙ sym (append_assoc (xs ++ empty) (section_header first) (section_header second ++ third)) in
+    let again : bytes ≡ ((xs ++ empty) ++ section_header first) ++ (section_header second ++ others) =
+    shifted ∙ sym (append_assoc (xs ++ empty) (section_header first) (section_header second ++ others)) in
     let there : place + 64 + 64 ≡ length ((xs ++ empty) ++ section_header first) =
     ap (λ k. k + 64) placed ∙ sym (length-append (xs ++ empty) (section_header first)) in
     let link : number_at bytes (place + 64 + 40) 4 ≡ 2 = number_there bytes (xs ++ empty) tail (place + 64) 40 4 shifted placed in
     let size : number_at bytes (place + 64 + 32) 8 ≡ length t =
-    number_there bytes (xs ++ empty) tail (place + 64) 32 8 shifted placed ∙ section_size first (section_header second ++ third) short_t in
+    number_there bytes (xs ++ empty) tail (place + 64) 32 8 shifted placed ∙ section_size first (section_header second ++ others) short_t in
     let symbols : section_bytes bytes (place + 64) ≡ t =
-    section_read bytes (xs ++ empty) (section_header second ++ third) (place + 64) 0 first t shifted placed low_t short_t refl held_t in
+    section_read bytes (xs ++ empty) (section_header second ++ others) (place + 64) first t shifted placed low_t short_t refl held_t in
     let strings : section_bytes bytes (place + 64 + 64) ≡ n =
-    section_read bytes ((xs ++ empty) ++ section_header first) third (place + 64 + 64) 0 second n again there low_n short_n refl held_n in
+    section_read bytes ((xs ++ empty) ++ section_header first) others (place + 64 + 64) second n again there low_n short_n refl held_n in
     let linked : number_at bytes 40 8 + 64 * number_at bytes (place + 64 + 40) 4 ≡ place + 64 + 64 = two_on place (number_at bytes 40 8) (number_at bytes (place + 64 + 40) 4) table link in
     ap (λ s. value_from name s (section_bytes bytes (number_at bytes 40 8 + 64 * number_at bytes (place + 64 + 40) 4)) 0 (number_at bytes (place + 64 + 32) 8 / 24)) symbols
     ∙ ap (λ o. value_from name t (section_bytes bytes o) 0 (number_at bytes (place + 64 + 32) 8 / 24)) linked
@@ -191,11 +196,12 @@ address_found parts threads name ready =
     let rest = program_headers (parts_at parts) parts ++ b.rest in
     let table : number_at bytes 40 8 ≡ places.sections = ap (λ l. number_at l 40 8) whole ∙ header_sections_at h rest ready.short in
     let count : number_at bytes 60 2 ≡ 4 = ap (λ l. number_at l 60 2) whole ∙ header_section_count h rest (lit< tt) in
+    let names = section_header (string_section 17 places.names (length section_names)) in
     let bounds = places_short (end_of (parts_at parts) parts) (length t) (length n) ready.short in
     ap (λ o. symbol_value bytes name (symbol_section_from bytes o (number_at bytes 60 2))) table
     ∙ ap (λ c. symbol_value bytes name (symbol_section_from bytes places.sections c)) count
-    ∙ ap (λ o. symbol_value bytes name o) (symbol_section_found bytes before places.sections places (length t) (length n) refl here)
-    ∙ symbol_value_found name bytes before t n places.sections places refl here table bounds.0 bounds.1 bounds.2 bounds.3
+    ∙ ap (λ o. symbol_value bytes name o) (symbol_section_found bytes before names places.sections 2 1 places.symbols (length t) 9 places.strings (length n) refl here)
+    ∙ symbol_value_found name bytes before names t n places.sections 1 places.symbols 9 places.strings refl here table bounds.0 bounds.1 bounds.2 bounds.3
     (symbols_held parts threads) (strings_held parts threads)
     ∙ ap (λ c. value_from name t n 0 c) (entries_counted symbols)
     ∙ table_searched name symbols (threads_well threads 0 1 (omega (arith, ready.few_threads)) (omega (arith, ready.few_threads)) ready.addresses)

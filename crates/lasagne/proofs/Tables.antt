@@ -2,6 +2,8 @@
 use Rattle.std.proofs.Common.{◌≡◌, ℕ, ◌+◌, ◌<◌, List, [], ◌∷◌, ◌++◌, length, map, get_or, drop, arith, sym, ◌∙◌, append_assoc, length-append, drop-cons, add-one, ap, refl}
 use Rattle.std.specs.Prelude.{◌*◌, ◌^◌, ◌≤◌, flat_map, decimal, slice_index}
 use Rattle.std.proofs.Common.{lit<}
+use Rattle.std.specs.List.{AllByRecursion}
+use Rattle.lasagne.specs.Symbols.{IsShort}
 use Rattle.std.proofs.lemmas.Fmt.{length-decimal-le}
 use Rattle.byteorder.specs.Endian.{little_bytes}
 use Rattle.byteorder.specs.Numbers.{length-bytes_low_first}
@@ -131,3 +133,9 @@ pub file_written : (parts : List Part) (threads symbols strings front last : Lis
     → last ≡ image_file parts threads
 file_written parts threads symbols strings front last places entry count one two three four five six seven =
     rw (seven, six, three, one, two, four, five) refl
+
+-- short names make a short table
+pub length-short_names : (symbols : List Symbol) → AllByRecursion IsShort symbols → length (symbol_names symbols) ≤ 33 * length symbols
+length-short_names [] short = omega arith
+length-short_names (symbol ∷ symbols) short =
+    let rest = length-short_names symbols short.1 in simp length-append (omega (arith, short.0, rest))

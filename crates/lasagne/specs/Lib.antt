@@ -1,3 +1,4 @@
+pub mod BuiltFile
 pub mod Bytes
 pub mod ElfFile
 pub mod ElfParts

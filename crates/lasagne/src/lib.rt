@@ -3,6 +3,7 @@
 //! Sources: System V gABI chapters 4 and 5 for files; Intel SDM volume 2 and Arm ARM DDI 0487 for instructions.
 #![tactic(auto)]
 
+mod built_file;
 mod elf_parts;
 mod image;
 mod symbols;
