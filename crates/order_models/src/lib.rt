@@ -3,6 +3,15 @@
 //! Sources: Sewell et al., CACM 2010 (x86-TSO); Rocha et al., PLDI 2022 (LIMM); Arm ARM DDI 0487, B2.3 (Armv8).
 #![tactic(auto)]
 
+mod arm;
 mod edge;
+mod limm;
+mod model;
+mod pair;
+mod tso;
 
+pub use arm::Arm;
 pub use edge::EdgeKind;
+pub use limm::Limm;
+pub use model::OrderModel;
+pub use tso::Tso;
