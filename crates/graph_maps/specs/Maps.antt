@@ -15,6 +15,11 @@ use Rattle.x64_syntax.specs.declared.slots.Slot.{Slot}
 use Rattle.x64_syntax.specs.declared.slots.SlotKind.{SlotKind}
 use Rattle.x64_syntax.specs.declared.slots.SlotKind.TheVariants as slot
 
+-- an item with the kind of its fence changed
+abbrev pub renamed : (FenceKind → FenceKind) → Item → Item
+renamed kind_of (item.Fence f) = item.Fence (record f { kind = kind_of f.kind })
+renamed kind_of other = other
+
 -- a DMB as the fence of the intermediate form; another fence stays
 abbrev pub limm_kind : FenceKind → FenceKind
 limm_kind DmbLd = Frm
@@ -22,14 +27,9 @@ limm_kind DmbSt = Fww
 limm_kind DmbFull = Fsc
 limm_kind other = other
 
--- an item of Armv8 in the intermediate form
-abbrev pub limm_item : Item → Item
-limm_item (item.Fence f) = item.Fence (record f { kind = limm_kind f.kind })
-limm_item other = other
-
 -- a thread of Armv8 in the intermediate form
 abbrev pub limm_thread : ThreadRun → ThreadRun
-limm_thread thread = record thread { items = map limm_item thread.items }
+limm_thread thread = record thread { items = map (renamed limm_kind) thread.items }
 
 -- x86 needs no fence for an Frm or an Fww
 abbrev pub is_needed : FenceKind → Bool
@@ -47,14 +47,9 @@ abbrev pub x86_kind : FenceKind → FenceKind
 x86_kind Fsc = Mfence
 x86_kind other = other
 
--- an item of the intermediate form in x86
-abbrev pub x86_item : Item → Item
-x86_item (item.Fence f) = item.Fence (record f { kind = x86_kind f.kind })
-x86_item other = other
-
 -- a thread of the intermediate form in x86
 abbrev pub x86_thread : ThreadRun → ThreadRun
-x86_thread thread = record thread { items = map x86_item (filter is_kept thread.items) }
+x86_thread thread = record thread { items = map (renamed x86_kind) (filter is_kept thread.items) }
 
 -- the kind of the slot in which an unlocked access is made
 abbrev pub slot_kind : AccessKind → SlotKind
