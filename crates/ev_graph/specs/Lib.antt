@@ -1,1 +1,9 @@
 pub mod Memory
+pub mod Start
+pub mod Places
+pub mod Events
+pub mod Pairs
+pub mod Cycle
+pub mod WellFormed
+pub mod Faults
+pub mod FinalByte

@@ -1,0 +1,11 @@
+pub mod Cut
+pub mod Each
+pub mod EventLemmas
+pub mod MapAnswers
+pub mod Private
+pub mod Renamed
+pub mod Sources
+pub mod Steps
+pub mod ToLimm
+pub mod ToTso
+pub mod Within

@@ -1,0 +1,7 @@
+use Rattle.graph_maps.specs.Maps.{limm_thread}
+use Rattle.graph_maps.proofs.Each.{mapped_step}
+use Rattle.graph_maps.proofs.from_arm.rename_threads.Goals as goal
+
+pub loop-thread-preserved : goal.loop-thread-preserved
+loop-thread-preserved c =
+    mapped_step limm_thread _ _ _ _ _ _ c.deref_mut-thread-items.ensures.value c.loop-thread-test.true c.loop-thread.auto.thread-items c.loop-thread.invariant c.rename_thread.ensures

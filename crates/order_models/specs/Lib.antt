@@ -1,0 +1,4 @@
+pub mod Orders
+pub mod Consistent
+pub mod Local
+pub mod OwnKinds
