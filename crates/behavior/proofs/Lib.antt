@@ -1,3 +1,5 @@
 pub mod SeenLemmas
 pub mod Paths
 pub mod Beside
+pub mod KeepsLemmas
+pub mod Simulations
