@@ -3,3 +3,5 @@ pub mod Paths
 pub mod Beside
 pub mod KeepsLemmas
 pub mod Simulations
+pub mod Walks
+pub mod Blocks
