@@ -1,6 +1,6 @@
 -- Two trees side by side: the tool with which one instruction's meaning is shown to be kept. Both directions and the
 -- bound on the count come out of it.
-use Rattle.std.proofs.Common.{◌≡◌, ℕ, zero, suc, ◌+◌, ◌*◌, ◌<◌, ◌≤◌, List, [], ◌∷◌, ◌++◌, refl, sym, ap, ◌∙◌, subst, arith}
+use Rattle.std.proofs.Common.{◌≡◌, ℕ, zero, suc, ◌+◌, ◌*◌, ◌<◌, ◌≤◌, List, [], ◌++◌, refl, sym, ap, ◌∙◌, arith}
 use Rattle.ev_graph.specs.declared.events.Item.{Item}
 use Rattle.behavior.specs.Tree.{Tree, Gives, Begins, Acts, Point, Cut, At, Path, cut, gives, begins, acts, ticks}
 use Rattle.behavior.specs.Kept.{SamePoint, both-cut, both-at, Keeps}

@@ -1,16 +1,16 @@
 -- A machine that takes several steps of another as one has the same runs, with the same count. So two machines whose
 -- blocks match in pairs match.
-use Rattle.std.proofs.Common.{◌≡◌, ℕ, zero, suc, ◌+◌, ◌*◌, ◌<◌, ◌≤◌, List, [], ◌∷◌, ◌++◌, refl, sym, ap, ◌∙◌, subst, arith}
+use Rattle.std.proofs.Common.{◌≡◌, ℕ, zero, suc, ◌+◌, ◌*◌, ◌<◌, ◌≤◌, List, ◌++◌, refl, sym, ap, ◌∙◌, subst, arith}
 use Rattle.std.proofs.Math.Nat.{mul-add}
 use Rattle.ev_graph.specs.declared.events.Item.{Item}
 use Rattle.ev_graph.specs.declared.events.End.{End}
 use Rattle.ev_graph.specs.declared.events.End.TheVariants.{Running}
-use Rattle.behavior.specs.Tree.{Tree, Gives, Begins, Acts, Point, Cut, At, Path, cut, gives, begins, acts, Next, Goes, Stops}
+use Rattle.behavior.specs.Tree.{Tree, Gives, Begins, Acts, Point, Cut, At, Path, begins, Next, Goes, Stops}
 use Rattle.behavior.specs.Run.{Run, cuts, stops, goes_on}
 use Rattle.behavior.specs.Seen.{trace}
 use Rattle.behavior.specs.Kept.{Backward, Forward, SamePoint, both-cut, both-at, SameNext, both-go, both-stop, Keeps}
 use Rattle.behavior.proofs.SeenLemmas.{SeesByParts, sees-trace}
-use Rattle.behavior.proofs.Walks.{Walk, ends-cut, ends-stop, walks-on, walks-begin, walks-act, From, from-cut, from-stop, from-go, run_walk, walk_run, from_walk, walk_from}
+use Rattle.behavior.proofs.Walks.{Walk, ends-cut, walks-on, walks-begin, walks-act, From, from-cut, from-stop, from-go, run_walk, walk_run, from_walk, walk_from}
 
 -- The block goes on where the step comes to a next state, by whole steps from there, and ends where it likes.
 pub data Unfolds {S : Type 0} (step : S → Tree (Next S)) : Tree (Next S) → Tree (Next S) → Type 0 where
@@ -115,9 +115,13 @@ module _ (seen : List Item → List Item) (sees : SeesByParts seen) {S T : Type 
   forth_go : (s : S) (t : T) → Same s t → (made rest all to : List Item) (r : S) (end : End) (n m total k : ℕ) (o : Point (Next T)) → Path (block' t) to o k → seen to ≡ seen made → k ≤ rate * n + 0
       → all ≡ made ++ rest → total ≡ n + m → ((u : T) → Same r u → Forth u rest end m) → SamePoint (SameNext Same) (At (Goes r)) o → Forth t all end total
   forth_go s t here made rest all to r end n m total k o path same few same_items same_count later (both-at (both-go {t = u} there)) =
-      let two = later u there in
-      (to ++ two.0, k + two.1, target_run s t here (from-go path two.2 refl refl), joined to two.0 made rest same two.3 ∙ ap seen (sym same_items),
-       omega (arith, few, two.4, mul-add rate n m, ap (λ c. rate * c) same_count))
+      let two = later u there in (
+        to ++ two.0,
+        k + two.1,
+        target_run s t here (from-go path two.2 refl refl),
+        joined to two.0 made rest same two.3 ∙ ap seen (sym same_items),
+        omega (arith, few, two.4, mul-add rate n m, ap (λ c. rate * c) same_count),
+      )
 
   forth_from : (s : S) (t : T) → Same s t → {made : List Item} {end : End} {n : ℕ}
       → ((r : S) (rest : List Item) (m : ℕ) → m < n → Run step r rest end m → (u : T) → Same r u → Forth u rest end m)

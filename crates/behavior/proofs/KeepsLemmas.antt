@@ -1,9 +1,9 @@
 -- How kept meanings compose: pass after pass, program after program.
-use Rattle.std.proofs.Common.{◌≡◌, ℕ, zero, suc, ◌+◌, ◌*◌, ◌≤◌, List, [], ◌∷◌, ◌++◌, refl, sym, ap, ◌∙◌, subst, arith}
+use Rattle.std.proofs.Common.{◌≡◌, ℕ, suc, ◌+◌, ◌*◌, ◌≤◌, List, [], ◌++◌, refl, sym, ap, ◌∙◌, subst, arith}
 use Rattle.std.proofs.Math.Nat.{mul-suc, mul-add, mul_assoc, mul-le-mul_left, mul-le-mul_right, add-mul}
 use Rattle.ev_graph.specs.declared.events.Item.{Item}
 use Rattle.ev_graph.specs.declared.events.End.{End}
-use Rattle.behavior.specs.Tree.{Tree, Gives, Begins, Acts, Point, Cut, At, Path, cut, gives, begins, acts, Next, Goes, Stops, ◌then◌}
+use Rattle.behavior.specs.Tree.{Tree, Begins, Point, Cut, At, Path, cut, begins, Next, Goes, Stops, ◌then◌}
 use Rattle.behavior.specs.Kept.{SamePoint, both-cut, both-at, SameNext, both-go, both-stop, Keeps, Through}
 use Rattle.behavior.proofs.SeenLemmas.{SeesByParts, IsCoarser}
 use Rattle.behavior.proofs.Paths.{path_cut, path_stop, path_then, Split, within, ended, beyond, split}
@@ -41,7 +41,8 @@ keeps_through seen a e b d First Second first second = record {
   back = λ to o m path.
       let two = second.back to o m path in
       let one = first.back two.0 two.1 two.2 two.3 in
-      (one.0, one.1, one.2, one.3, one.4 ∙ two.4, point_through one.5 two.5) }
+      (one.0, one.1, one.2, one.3, one.4 ∙ two.4, point_through one.5 two.5);
+}
 
 -- results that are the same by more, and more room for instructions
 pub keeps_wider : {A B : Type 0} (seen : List Item → List Item) (rate extra more : ℕ) (Same Wider : A → B → Type 0) {p : Tree A} {q : Tree B}
@@ -52,7 +53,8 @@ keeps_wider seen rate extra more Same Wider le wider keeps = record {
       (one.0, one.1, one.2, one.3, one.4, point_wider wider one.5, omega (arith, le, one.6));
   back = λ to o m path.
       let one = keeps.back to o m path in
-      (one.0, one.1, one.2, one.3, one.4, point_wider wider one.5) }
+      (one.0, one.1, one.2, one.3, one.4, point_wider wider one.5);
+}
 
 -- a greater rate
 pub keeps_faster : {A B : Type 0} (seen : List Item → List Item) (rate more extra : ℕ) (Same : A → B → Type 0) {p : Tree A} {q : Tree B}
@@ -62,7 +64,8 @@ keeps_faster seen rate more extra Same le keeps = record {
       let one = keeps.forth from i n path in
       let few : rate * n ≤ more * n = mul-le-mul_right n le in
       (one.0, one.1, one.2, one.3, one.4, one.5, omega (arith, few, one.6));
-  back = keeps.back }
+  back = keeps.back;
+}
 
 -- less is seen
 pub keeps_coarser : {A B : Type 0} (fine coarse : List Item → List Item) (rate extra : ℕ) (Same : A → B → Type 0) {p : Tree A} {q : Tree B}
@@ -73,13 +76,15 @@ keeps_coarser fine coarse rate extra Same less keeps = record {
       (one.0, one.1, one.2, one.3, less one.0 from one.4, one.5, one.6);
   back = λ to o m path.
       let one = keeps.back to o m path in
-      (one.0, one.1, one.2, one.3, less one.0 to one.4, one.5) }
+      (one.0, one.1, one.2, one.3, less one.0 to one.4, one.5);
+}
 
 -- a tree keeps its own meaning
 pub keeps_self : {A : Type 0} (seen : List Item → List Item) (p : Tree A) → Keeps seen 1 0 (λ a b. a ≡ b) p p
 keeps_self {A} seen p = record {
   forth = λ from i n path. (from, i, n, path, refl, same_point i, omega arith);
-  back = λ to o m path. (to, o, m, path, refl, same_point o) }
+  back = λ to o m path. (to, o, m, path, refl, same_point o);
+}
   where
     same_point : {A : Type 0} (i : Point A) → SamePoint (λ (a b : A). a ≡ b) i i
     same_point Cut = both-cut
@@ -117,9 +122,15 @@ module _ (seen : List Item → List Item) (sees : SeesByParts seen) {S T U V : T
   forth_go : (q : Tree (Next T)) (s : S) (xs ys all to : List Item) (n k total m : ℕ) (i : Point (Next U)) (o : Point (Next T)) → Path q to o m → seen to ≡ seen xs → m ≤ rate * n + extra
       → Path (f s) ys i k → all ≡ xs ++ ys → total ≡ n + k → SamePoint (SameNext Same) (At (Goes s)) o → Forth q all i total
   forth_go q s xs ys all to n k total m i o path same few more same_items same_count (both-at (both-go {t = t} here)) =
-      let two = (afterwards s t here).forth ys i k more in
-      (to ++ two.0, two.1, m + two.2, path_then g path two.3, joined to two.0 xs ys same two.4 ∙ ap seen (sym same_items), two.5,
-       omega (arith, few, two.6, mul-add rate n k, ap (λ c. rate * c) same_count))
+      let two = (afterwards s t here).forth ys i k more in (
+        to ++ two.0,
+        two.1,
+        m + two.2,
+        path_then g path two.3,
+        joined to two.0 xs ys same two.4 ∙ ap seen (sym same_items),
+        two.5,
+        omega (arith, few, two.6, mul-add rate n k, ap (λ c. rate * c) same_count),
+      )
 
   back_cut : (p : Tree (Next S)) (from to : List Item) (n : ℕ) (i : Point (Next S)) → Path p from i n → seen from ≡ seen to → SamePoint (SameNext Same) i Cut → Back p to Cut
   back_cut p from to n i path same both-cut = (from, Cut, n, path_cut f path, same, both-cut)
@@ -155,7 +166,8 @@ module _ (seen : List Item → List Item) (sees : SeesByParts seen) {S T U V : T
   pub keeps_then_more : {p : Tree (Next S)} {q : Tree (Next T)} → Keeps seen rate extra (SameNext Same) p q → Keeps seen rate (extra + later) (SameNext Later) (p then f) (q then g)
   keeps_then_more {p} {q} keeps = record {
     forth = λ from i n path. forth_split keeps (split p f path);
-    back = λ to o m path. back_split keeps (split q g path) }
+    back = λ to o m path. back_split keeps (split q g path);
+  }
 
 -- one program after another
 pub keeps_then : (seen : List Item → List Item) → SeesByParts seen → {S T U V : Type 0} (rate extra : ℕ) (Same : S → T → Type 0) (Later : U → V → Type 0)

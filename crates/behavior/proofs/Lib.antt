@@ -5,3 +5,4 @@ pub mod KeepsLemmas
 pub mod Simulations
 pub mod Walks
 pub mod Blocks
+pub mod Explanations

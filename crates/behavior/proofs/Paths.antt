@@ -1,5 +1,5 @@
 -- Paths through two trees, one behind the other.
-use Rattle.std.proofs.Common.{◌≡◌, ℕ, suc, ◌+◌, ◌<◌, List, [], ◌∷◌, ◌++◌, refl, sym, ap, ◌∙◌, subst, arith, append_assoc}
+use Rattle.std.proofs.Common.{◌≡◌, ℕ, suc, ◌+◌, ◌<◌, List, ◌++◌, refl, sym, ap, ◌∙◌, subst, arith, append_assoc}
 use mathlib.Core.Path.{fun_ext}
 use Rattle.ev_graph.specs.declared.events.Item.{Item}
 use Rattle.ev_graph.specs.declared.events.End.{End}

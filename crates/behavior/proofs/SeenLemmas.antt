@@ -4,8 +4,6 @@ use Rattle.ev_graph.specs.declared.events.Item.{Item}
 use Rattle.ev_graph.specs.declared.events.Item.TheVariants as items
 use Rattle.ev_graph.specs.declared.events.AccessKind.{AccessKind}
 use Rattle.ev_graph.specs.declared.events.AccessKind.TheVariants.{Read, Write}
-use Rattle.ev_graph.specs.declared.events.FenceKind.{FenceKind}
-use Rattle.ev_graph.specs.declared.events.FenceKind.TheVariants.{Frm, Fww, Fsc, Mfence, DmbLd, DmbSt, DmbFull}
 use Rattle.behavior.specs.Seen.{trace, placed, barrier, lowered, all_items, given_by, given, counted}
 
 -- what is seen of a list is what is seen of its parts, one behind the other

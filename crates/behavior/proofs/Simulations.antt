@@ -1,5 +1,5 @@
 -- Two machines whose steps keep the meaning have the same runs.
-use Rattle.std.proofs.Common.{◌≡◌, ℕ, zero, suc, ◌+◌, ◌*◌, ◌≤◌, List, [], ◌∷◌, ◌++◌, refl, sym, ap, ◌∙◌, subst, arith}
+use Rattle.std.proofs.Common.{◌≡◌, ℕ, ◌+◌, ◌*◌, ◌≤◌, List, ◌++◌, sym, ap, ◌∙◌, arith}
 use Rattle.std.proofs.Math.Nat.{mul-add}
 use Rattle.ev_graph.specs.declared.events.Item.{Item}
 use Rattle.ev_graph.specs.declared.events.End.{End}
@@ -7,7 +7,7 @@ use Rattle.ev_graph.specs.declared.events.End.TheVariants.{Running}
 use Rattle.behavior.specs.Tree.{Tree, Point, Cut, At, Path, Next, Goes, Stops}
 use Rattle.behavior.specs.Run.{Run, cuts, stops, goes_on}
 use Rattle.behavior.specs.Seen.{trace}
-use Rattle.behavior.specs.Kept.{BackwardBy, ForwardBy, Backward, Forward, SamePoint, both-cut, both-at, SameNext, both-go, both-stop, Keeps}
+use Rattle.behavior.specs.Kept.{Backward, Forward, SamePoint, both-cut, both-at, SameNext, both-go, both-stop, Keeps}
 use Rattle.behavior.proofs.SeenLemmas.{SeesByParts, sees-trace}
 
 module _ (seen : List Item → List Item) (sees : SeesByParts seen) {S T : Type 0} (rate : ℕ) (Same : S → T → Type 0) (source : S → Tree (Next S)) (target : T → Tree (Next T))

@@ -1,9 +1,9 @@
 -- A run from within a step on, taken apart act by act.
-use Rattle.std.proofs.Common.{◌≡◌, ℕ, suc, ◌+◌, ◌<◌, List, [], ◌∷◌, ◌++◌, refl, sym, ap, ◌∙◌, subst, arith, append_assoc}
+use Rattle.std.proofs.Common.{◌≡◌, ℕ, suc, ◌+◌, ◌<◌, List, [], ◌++◌, refl, sym, ap, ◌∙◌, subst, arith, append_assoc}
 use Rattle.ev_graph.specs.declared.events.Item.{Item}
 use Rattle.ev_graph.specs.declared.events.End.{End}
 use Rattle.ev_graph.specs.declared.events.End.TheVariants.{Running}
-use Rattle.behavior.specs.Tree.{Tree, Gives, Begins, Acts, Point, Cut, At, Path, cut, gives, begins, acts, Next, Goes, Stops}
+use Rattle.behavior.specs.Tree.{Tree, Gives, Begins, Acts, Cut, At, Path, cut, gives, begins, acts, Next, Goes, Stops}
 use Rattle.behavior.specs.Run.{Run, cuts, stops, goes_on}
 
 -- What a machine does from within a step on: through the tree, and on with the next step where it comes to a state.
