@@ -6,3 +6,4 @@ pub mod Simulations
 pub mod Walks
 pub mod Blocks
 pub mod Explanations
+pub mod ActsLemmas
