@@ -1,5 +1,5 @@
 -- The acts of rows: what decides them, and two of them side by side.
-use Rattle.std.proofs.Common.{◌≡◌, ℕ, ◌+◌, ◌<◌, ◌^◌, ◌%◌, ◌&&◌, Bool, true, false, List, [], ◌∷◌, ◌++◌, Option, Some, None, refl, sym, ap, ◌∙◌, subst, arith}
+use Rattle.std.proofs.Common.{◌≡◌, ℕ, ◌<◌, ◌^◌, ◌%◌, ◌&&◌, Bool, true, false, List, [], ◌∷◌, ◌++◌, Option, arith}
 use Rattle.std.specs.Prelude.{if◌then◌else◌}
 use Rattle.ev_graph.specs.declared.events.Item.{Item}
 use Rattle.ev_graph.specs.declared.events.Item.TheVariants as items
@@ -8,11 +8,11 @@ use Rattle.ev_graph.specs.declared.events.TrapKind.{TrapKind}
 use Rattle.ev_graph.specs.declared.events.TrapKind.TheVariants.{BadAccess}
 use Rattle.ev_graph.specs.declared.events.FenceKind.{FenceKind}
 use Rattle.behavior.specs.Tree.{Tree, Gives, Begins, Acts, Next, Goes, Stops, ◌then◌}
-use Rattle.behavior.specs.Acts.{Permission, goes, traps, access, makes, reads, writes, locked_write, exchanges, fences_at, takes_in, puts_out}
+use Rattle.behavior.specs.Acts.{Permission, traps, access, makes, reads, writes, locked_write, exchanges, fences_at, takes_in}
 use Rattle.behavior.specs.Seen.{given}
-use Rattle.behavior.specs.Kept.{SameNext, both-go, both-stop}
+use Rattle.behavior.specs.Kept.{SameNext, both-stop}
 use Rattle.behavior.specs.Explained.{IsOpen}
-use Rattle.behavior.proofs.Beside.{Beside, give, earn, spend, act, only-target, only-source}
+use Rattle.behavior.proofs.Beside.{Beside, give, act, only-target}
 
 -- ---- each value from outside shows
 
@@ -43,7 +43,7 @@ open_writes may place address size value t here =
 pub open_exchanges : {S : Type 0} (may : Permission) (place address size : ℕ) (new : ℕ → Option ℕ) (go : ℕ → Tree (Next S)) → ((v : ℕ) → IsOpen (go v)) → IsOpen (exchanges may place address size new go)
 open_exchanges may place address size new go here =
     open_choice (may false address size && may true address size) (Acts (256 ^ size) (λ v. access Read true place address size v ∷ locked_write place address size (new v)) go) BadAccess
-      ((λ v w lt lt' x y same. first_same v w (given (locked_write place address size (new v)) ++ x) (given (locked_write place address size (new w)) ++ y) same), here)
+    ((λ v w lt lt' x y same. first_same v w (given (locked_write place address size (new v)) ++ x) (given (locked_write place address size (new w)) ++ y) same), here)
   where
     first_same : (v w : ℕ) (x y : List ℕ) → (v ∷ x) ≡ (w ∷ y) → v ≡ w
     first_same v w x y same = cc
@@ -71,7 +71,7 @@ module _ (seen : List Item → List Item) (rate : ℕ) {S T : Type 0} (Same : S 
       → Beside seen rate (SameNext Same) credit (reads may place address size go then f) (reads may place' address size go' then g)
   beside_reads f g credit may place place' address size go go' alike here =
       beside_choice f g credit (may false address size) (Acts (256 ^ size) (λ v. access Read false place address size v ∷ []) go) (Acts (256 ^ size) (λ v. access Read false place' address size v ∷ []) go') BadAccess
-        (act (λ v lt. alike v) here)
+      (act (λ v lt. alike v) here)
 
   -- writes of the same value to the same bytes
   pub beside_writes : {S' T' : Type 0} (f : S' → Tree (Next S)) (g : T' → Tree (Next T)) (credit : ℕ) (may : Permission) (place place' address size value : ℕ) (p : Tree (Next S')) (q : Tree (Next T'))
@@ -80,7 +80,7 @@ module _ (seen : List Item → List Item) (rate : ℕ) {S T : Type 0} (Same : S 
       → Beside seen rate (SameNext Same) credit (writes may place address size value p then f) (writes may place' address size value q then g)
   beside_writes f g credit may place place' address size value p q alike here =
       beside_choice f g credit (may true address size) (makes (access Write false place address size (value % 256 ^ size)) p) (makes (access Write false place' address size (value % 256 ^ size)) q) BadAccess
-        (act (λ v lt. alike) (λ v lt. here))
+      (act (λ v lt. alike) (λ v lt. here))
 
   -- locked pairs on the same bytes, by the same rule
   pub beside_exchanges : {S' T' : Type 0} (f : S' → Tree (Next S)) (g : T' → Tree (Next T)) (credit : ℕ) (may : Permission) (place place' address size : ℕ) (new : ℕ → Option ℕ) (go : ℕ → Tree (Next S')) (go' : ℕ → Tree (Next T'))
@@ -89,7 +89,7 @@ module _ (seen : List Item → List Item) (rate : ℕ) {S T : Type 0} (Same : S 
       → Beside seen rate (SameNext Same) credit (exchanges may place address size new go then f) (exchanges may place' address size new go' then g)
   beside_exchanges f g credit may place place' address size new go go' alike here =
       beside_choice f g credit (may false address size && may true address size) (Acts (256 ^ size) (λ v. access Read true place address size v ∷ locked_write place address size (new v)) go)
-        (Acts (256 ^ size) (λ v. access Read true place' address size v ∷ locked_write place' address size (new v)) go') BadAccess (act (λ v lt. alike v) here)
+      (Acts (256 ^ size) (λ v. access Read true place' address size v ∷ locked_write place' address size (new v)) go') BadAccess (act (λ v lt. alike v) here)
 
   -- two fences that are seen alike
   pub beside_fences : {S' T' : Type 0} (f : S' → Tree (Next S)) (g : T' → Tree (Next T)) (credit : ℕ) (kind kind' : FenceKind) (place place' : ℕ) (p : Tree (Next S')) (q : Tree (Next T'))
