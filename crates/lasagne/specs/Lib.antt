@@ -5,3 +5,7 @@ pub mod ElfParts
 pub mod ImageFile
 pub mod Image
 pub mod Symbols
+pub mod Accepted
+pub mod Carries
+pub mod Plan
+pub mod Lines

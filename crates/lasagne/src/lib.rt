@@ -6,6 +6,7 @@
 mod built_file;
 mod elf_parts;
 mod image;
+mod plan;
 mod symbols;
 
 pub use image::{Image, ImageSegment};

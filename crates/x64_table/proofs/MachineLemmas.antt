@@ -11,7 +11,7 @@ use Rattle.behavior.specs.Explained.{IsOpen}
 use Rattle.behavior.proofs.ActsLemmas.{open_then, open_reads, open_writes}
 use Rattle.x64_table.specs.declared.narrow.Narrow.{Narrow}
 use Rattle.x64_table.specs.declared.narrow.Narrow.TheVariants.{Move, Load, Store, Move32, Move64, Ret}
-use Rattle.x64_table.specs.declared.narrow.SlotKind.TheVariants.{Read, Write}
+use Rattle.x64_syntax.specs.declared.slots.SlotKind.TheVariants.{Read, Write}
 use Rattle.x64_table.specs.Slots.{slots_made, RowMakesSlots}
 use Rattle.x64_table.specs.Machine.{X64, Exit, State, Return, after, x64_row, resolve, PlacedNarrow, x64_take, x64_step}
 

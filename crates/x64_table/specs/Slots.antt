@@ -9,8 +9,8 @@ use Rattle.behavior.specs.Acts.{Permission}
 use Rattle.x64_table.specs.Machine.{X64, Exit, x64_row}
 use Rattle.x64_table.specs.declared.narrow.Narrow.{Narrow}
 use Rattle.x64_table.specs.declared.narrow.Narrow.TheVariants.{Move, Load, Store, Move32, Move64, Ret}
-use Rattle.x64_table.specs.declared.narrow.SlotKind.{SlotKind}
-use Rattle.x64_table.specs.declared.narrow.SlotKind.TheVariants.{Read, Write, Locked}
+use Rattle.x64_syntax.specs.declared.slots.SlotKind.{SlotKind}
+use Rattle.x64_syntax.specs.declared.slots.SlotKind.TheVariants.{Read, Write, Locked}
 
 -- the slots of an instruction, in the order of its accesses
 abbrev pub slots : Narrow → List SlotKind

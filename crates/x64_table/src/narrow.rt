@@ -5,6 +5,8 @@ ghost use Rattle.x64_table.specs.Spelling.{Begins, SpellingsStandAlone};
 ghost use Rattle.x64_table.specs.Reading.{plain, to_operand, from_operand, immediate32, immediate64, wide_reading, reading, within};
 ghost use Rattle.x64_table.specs.Slots.{slots, RowMakesSlots};
 
+use x64_syntax::SlotKind;
+
 /// An instruction that makes at most one access and sets no flags.
 ///
 /// The numbers are those of 64-bit registers, 0 to 7: RAX, RCX, RDX, RBX, RSP, RBP, RSI, RDI. A
@@ -23,14 +25,6 @@ pub enum Narrow {
     Move64(u8, u64),
     /// `RET`: reads 8 bytes at RSP, which rises by 8, and returns to the address that was read.
     Ret,
-}
-
-/// What an instruction does to memory: an unlocked read or write, or a locked read with its write.
-#[derive(Clone, Copy, Debug, PartialEq, Eq)]
-pub enum SlotKind {
-    Read,
-    Write,
-    Locked,
 }
 
 impl Narrow {

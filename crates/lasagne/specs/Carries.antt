@@ -1,0 +1,42 @@
+-- What it means that the bytes of an image carry those of an input.
+use Rattle.std.specs.Prelude.{◌≡◌, ◌≤◌, ◌<◌, ℕ, zero, suc, ◌+◌, ◌%◌, ◌==◌, Bool, List, [], ◌∷◌, ◌++◌, length, bit_and, if◌then◌else◌}
+use Rattle.std.specs.List.{AllByRecursion}
+use Rattle.ev_graph.specs.declared.execution.Execution.{Execution}
+use Rattle.ev_graph.specs.declared.execution.Stack.{Stack}
+use Rattle.ev_graph.specs.Memory.{Part, Fits}
+use Rattle.x64_syntax.specs.declared.slots.Slot.{Slot}
+use Rattle.lasagne.specs.ElfFile.{segments_of, threads_of}
+use Rattle.lasagne.specs.ImageFile.{image_file, code_part}
+use Rattle.lasagne.specs.Accepted.{HasNoFault}
+
+-- The segments that an image keeps: those of nonzero size, in order, with their bytes, and with the flags R and W alone.
+abbrev pub kept : List Part → List Part
+kept [] = []
+kept (part ∷ parts) = if part.size == 0 then kept parts else record part { flags = bit_and part.flags 6 } ∷ kept parts
+
+-- no part ends behind the address
+abbrev pub EndBefore : ℕ → List Part → Type 0
+EndBefore address parts = AllByRecursion (λ part. part.address + part.size ≤ address) parts
+
+-- the least multiple of 65,536 that is not below the end of any part
+pub record IsCodeAddress (parts : List Part) (address : ℕ) : Type 0 where
+  pub multiple : address % 65536 ≡ 0
+  pub behind : EndBefore address parts
+  pub least : (other : ℕ) → other % 65536 ≡ 0 → EndBefore other parts → address ≤ other
+
+-- The image carries the input, where the slots of `private` need no fence, the executions of the image are those that
+-- `order` allows, and an instruction of the input takes at most `bound` instructions of the image.
+pub record Carries (private : Slot → Bool) (order : Execution → Type 0) (bound : ℕ) (input image : List ℕ) : Type 0 where
+  -- the input has no fault
+  pub no_fault : HasNoFault input
+  -- the image's segments are the input's, and behind them, at an address that is said, is code that can only be executed
+  pub code_address : ℕ
+  pub words : List ℕ
+  pub behind : IsCodeAddress (kept (segments_of input)) code_address
+  pub segments : segments_of image ≡ kept (segments_of input) ++ code_part code_address words ∷ []
+  -- it has as many threads
+  pub threads : length (threads_of image) ≡ length (threads_of input)
+  -- its bytes are those of an image file, and no others
+  pub bytes : image ≡ image_file (segments_of image) (threads_of image)
+  -- a layout of stacks that fits the image fits the input
+  pub layouts : (stacks : List Stack) → Fits (segments_of image) (length (threads_of image)) stacks → Fits (segments_of input) (length (threads_of input)) stacks
