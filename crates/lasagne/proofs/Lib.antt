@@ -5,3 +5,4 @@ pub mod ReadImage
 pub mod ReadThreads
 pub mod ReadSymbols
 pub mod Built
+pub mod Stored

@@ -9,3 +9,6 @@ pub mod Accepted
 pub mod Carries
 pub mod Plan
 pub mod Lines
+pub mod Ports
+pub mod Memories
+pub mod Calls

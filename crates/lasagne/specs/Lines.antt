@@ -60,8 +60,10 @@ AreLines parts (address ∷ addresses) (line ∷ lines) = IsLine parts address l
 -- a line as one block
 abbrev pub block_of : ℕ → List Placed → Block
 block_of first line = record {
-    first = first; instructions = length line;
-    marks = flat_map (λ placed. map (λ kind. Access (record { address = placed.address; kind = kind })) (slots placed.instr)) line }
+  first = first;
+  instructions = length line;
+  marks = flat_map (λ placed. map (λ kind. Access (record { address = placed.address; kind = kind })) (slots placed.instr)) line;
+}
 
 abbrev pub blocks_of : List ℕ → List (List Placed) → List Block
 blocks_of [] lines = []

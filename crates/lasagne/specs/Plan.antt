@@ -58,11 +58,12 @@ slots_of (Access slot ∷ marks) = slot ∷ slots_of marks
 -- what is counted of the blocks that so many threads run
 abbrev pub summary_of : (private : Slot → Bool) → (threads : ℕ) → List Block → Summary
 summary_of private threads blocks = record {
-    threads = threads;
-    instructions = sum_by (λ block. block.instructions) blocks;
-    blocks = length blocks;
-    accesses = sum_by (λ block. length (slots_of block.marks)) blocks;
-    private = sum_by (λ block. count_by private (slots_of block.marks)) blocks;
-    frm = sum_by (λ block. count_by (λ g. g.frm) (gaps private block)) blocks;
-    fww = sum_by (λ block. count_by (λ g. g.fww) (gaps private block)) blocks;
-    fsc = sum_by (λ block. count_by (λ g. g.fsc) (gaps private block)) blocks }
+  threads = threads;
+  instructions = sum_by (λ block. block.instructions) blocks;
+  blocks = length blocks;
+  accesses = sum_by (λ block. length (slots_of block.marks)) blocks;
+  private = sum_by (λ block. count_by private (slots_of block.marks)) blocks;
+  frm = sum_by (λ block. count_by (λ g. g.frm) (gaps private block)) blocks;
+  fww = sum_by (λ block. count_by (λ g. g.fww) (gaps private block)) blocks;
+  fsc = sum_by (λ block. count_by (λ g. g.fsc) (gaps private block)) blocks;
+}

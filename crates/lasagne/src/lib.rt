@@ -7,6 +7,7 @@ mod built_file;
 mod elf_parts;
 mod image;
 mod plan;
+pub mod ports;
 mod symbols;
 
 pub use image::{Image, ImageSegment};
