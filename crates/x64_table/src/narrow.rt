@@ -25,6 +25,14 @@ pub enum Narrow {
     Ret,
 }
 
+/// An instruction that stands at an address, with its length in bytes.
+#[derive(Clone, Copy, Debug, PartialEq, Eq)]
+pub struct PlacedNarrow {
+    pub address: u64,
+    pub length: u8,
+    pub instr: Narrow,
+}
+
 /// What an instruction does to memory: an unlocked read or write, or a locked read with its write.
 #[derive(Clone, Copy, Debug, PartialEq, Eq)]
 pub enum SlotKind {
