@@ -347,3 +347,69 @@ fn distance_in(word: u32) -> i32
         bits - 0x8_0000
     }
 }
+
+#[cfg(test)]
+mod tests {
+    use super::*;
+    use std::test::Fail;
+
+    fn x(number: u8) -> XReg {
+        XReg { number }
+    }
+
+    // words as `llvm-mc -triple=aarch64 -show-encoding` gives them
+    fn listing() -> [(A64<XReg>, u32); 14] {
+        [
+            // mov x7, x0
+            (A64::Orr(true, x(7), x(31), x(0), 0, 0), 0xAA00_03E7),
+            // orr w1, w2, w3, asr #5
+            (A64::Orr(false, x(1), x(2), x(3), 2, 5), 0x2A83_1441),
+            // add x4, x4, #8
+            (A64::AddImm(true, x(4), x(4), 8), 0x9100_2084),
+            // mov x7, #0x4000
+            (A64::Movz(true, x(7), 0x4000, 0), 0xD288_0007),
+            // movk x7, #0x40, lsl #16
+            (A64::Movk(true, x(7), 0x40, 1), 0xF2A0_0807),
+            // cbz x16, .+8
+            (A64::Cbz(true, x(16), 2), 0xB400_0050),
+            // cbz w3, .-4
+            (A64::Cbz(false, x(3), -1), 0x34FF_FFE3),
+            // ldr x16, [x4]
+            (A64::Ldr(8, x(16), x(4), 0), 0xF940_0090),
+            // strb w1, [x2, #3]
+            (A64::Str(1, x(1), x(2), 3), 0x3900_0C41),
+            // dmb ish, dmb ishld, dmb ishst
+            (A64::DmbFull, 0xD503_3BBF),
+            (A64::DmbLd, 0xD503_39BF),
+            (A64::DmbSt, 0xD503_3ABF),
+            // brk #3
+            (A64::Brk(3), 0xD420_0060),
+            // svc #3
+            (A64::Svc(3), 0xD400_0061),
+        ]
+    }
+
+    #[test]
+    fn reads_and_writes_words(rt: HostRuntime) -> Result<(), Fail> {
+        for (instr, word) in listing().iter() {
+            assert_eq!(rt; decode_word(*word), Some(*instr));
+            assert!(rt; is_in_range(*instr));
+            assert_eq!(rt; encode(*instr), *word);
+        }
+        Ok(())
+    }
+
+    #[test]
+    fn reads_nothing_else(rt: HostRuntime) -> Result<(), Fail> {
+        assert_eq!(rt; decode_word(0), None);
+        assert_eq!(rt; decode_word(0xD400_0081), None, "svc #4");
+        assert_eq!(rt;
+            decode_word(0xAA00_03FF),
+            None,
+            "its result is the zero register"
+        );
+        assert_eq!(rt; decode_word(0xF940_0092), None, "it names x18");
+        assert_eq!(rt; decode_word(0xD503_3FDF), None, "isb");
+        Ok(())
+    }
+}

@@ -11,9 +11,10 @@ use Rattle.behavior.specs.Explained.{IsOpen}
 use Rattle.behavior.proofs.ActsLemmas.{open_then, open_reads, open_writes}
 use Rattle.x64_table.specs.declared.narrow.Narrow.{Narrow}
 use Rattle.x64_table.specs.declared.narrow.Narrow.TheVariants.{Move, Load, Store, Move32, Move64, Ret}
+use Rattle.x64_table.specs.declared.narrow.PlacedNarrow.{PlacedNarrow}
 use Rattle.x64_syntax.specs.declared.slots.SlotKind.TheVariants.{Read, Write}
 use Rattle.x64_table.specs.Slots.{slots_made, RowMakesSlots}
-use Rattle.x64_table.specs.Machine.{X64, Exit, State, Return, after, x64_row, resolve, PlacedNarrow, x64_take, x64_step}
+use Rattle.x64_table.specs.Machine.{X64, Exit, State, Return, after, x64_row, resolve, x64_take, x64_step}
 
 pub row_open : (may : Permission) (instr : Narrow) (length : ℕ) (s : X64) → IsOpen (x64_row may instr length s)
 row_open may (Move to from) length s = tt
@@ -33,7 +34,7 @@ resolve_open is_site (Return s target) = either (target == 0) (Gives (Stops Halt
 
 take_open : (may : Permission) (is_site : ℕ → Bool) (p : Option PlacedNarrow) (s : X64) → IsOpen (x64_take may is_site p s)
 take_open may is_site None s = tt
-take_open may is_site (Some p) s = open_then (x64_row may p.instr p.size s) (resolve is_site) (row_open may p.instr p.size s) (resolve_open is_site)
+take_open may is_site (Some p) s = open_then (x64_row may p.instr p.length s) (resolve is_site) (row_open may p.instr p.length s) (resolve_open is_site)
 
 -- the values that a thread reads decide what it does
 pub x64_step_open : (may : Permission) (placed : ℕ → Option PlacedNarrow) (is_site : ℕ → Bool) (s : X64) → IsOpen (x64_step may placed is_site s)

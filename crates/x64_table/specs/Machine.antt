@@ -5,6 +5,7 @@ use Rattle.ev_graph.specs.declared.events.TrapKind.TheVariants.{BadReturn, BadJu
 use Rattle.behavior.specs.Tree.{Tree, Gives, Begins, Next, Stops, ◌then◌}
 use Rattle.behavior.specs.Acts.{Bank, put, Permission, goes, traps, reads, writes}
 use Rattle.x64_table.specs.declared.narrow.Narrow.{Narrow}
+use Rattle.x64_table.specs.declared.narrow.PlacedNarrow.{PlacedNarrow}
 use Rattle.x64_table.specs.declared.narrow.Narrow.TheVariants.{Move, Load, Store, Move32, Move64, Ret}
 
 -- a thread between two instructions: its registers, by number, and the address of the next instruction
@@ -42,15 +43,10 @@ resolve is_site (Return s target) =
 abbrev pub no_sites : ℕ → Bool
 no_sites n = false
 
--- an instruction that stands at an address, and how many bytes it has
-pub record PlacedNarrow : Type 0 where
-  pub instr : Narrow
-  pub size : ℕ
-
 -- the instruction that stands at the thread's address, if there is one
 abbrev pub x64_take : Permission → (is_site : ℕ → Bool) → Option PlacedNarrow → X64 → Tree (Next X64)
 x64_take may is_site None s = traps BadJump
-x64_take may is_site (Some p) s = Begins (x64_row may p.instr p.size s then resolve is_site)
+x64_take may is_site (Some p) s = Begins (x64_row may p.instr p.length s then resolve is_site)
 
 -- One step of a thread, whose code has an instruction at some addresses; at any other the thread ends.
 abbrev pub x64_step : Permission → (placed : ℕ → Option PlacedNarrow) → (is_site : ℕ → Bool) → X64 → Tree (Next X64)

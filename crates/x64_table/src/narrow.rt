@@ -27,6 +27,14 @@ pub enum Narrow {
     Ret,
 }
 
+/// An instruction that stands at an address, with its length in bytes.
+#[derive(Clone, Copy, Debug, PartialEq, Eq)]
+pub struct PlacedNarrow {
+    pub address: u64,
+    pub length: u8,
+    pub instr: Narrow,
+}
+
 impl Narrow {
     /// The access that the instruction makes, if any.
     pub fn slot(self) -> Option<SlotKind>
