@@ -7,7 +7,7 @@ use Rattle.std.proofs.Common.{lit<, lit≤}
 use Rattle.lasagne.specs.ElfParts.{file_header, program_header, symbol_table, string_table}
 use Rattle.lasagne.specs.ElfFile.{segments_of, segments_from, symbol_section_from, symbol_value, value_from, address_of}
 use Rattle.lasagne.specs.ImageFile.{header_of}
-use Rattle.lasagne.specs.BuiltFile.{cells_at, built_header, code_header, cells_header, built_headers, built_sections, built_file}
+use Rattle.lasagne.specs.BuiltFile.{cells_at, code_segment, cells_segment, built_header, code_header, cells_header, built_headers, built_sections, built_file}
 use Rattle.lasagne.proofs.Reading.{length-padded, number_there, range_there, range_here}
 use Rattle.lasagne.proofs.ReadParts.{Begins, begins_self, begins_more, range_between, segments_step, segment_read, FitsFields}
 use Rattle.lasagne.proofs.ReadImage.{header_sections_at, header_section_count}
@@ -21,13 +21,6 @@ pub built_written : (code cells : List ℕ) (address : ℕ) (symbols : List Symb
     → last ≡ padded (padded contents (at + 4096) ++ (table ++ strings)) (at + 0x2000) ++ built_sections (at + 4096) (length table) (length strings)
     → last ≡ built_file code cells address symbols
 built_written code cells address symbols contents table strings last at one two three four five = rw (five, one, four, two, three) refl
-
--- the segments of a built file
-abbrev pub code_segment : List ℕ → Part
-code_segment code = record { address = 0x401000; size = length code; flags = 5; bytes = code }
-
-abbrev pub cells_segment : List ℕ → ℕ → Part
-cells_segment cells address = record { address = address; size = length cells; flags = 6; bytes = cells }
 
 -- the pieces of bytes that are put together as a built file's are
 pub begins_headers : (headers code cells tables sections : List ℕ) (a b c d : ℕ)

@@ -6,3 +6,7 @@ pub mod ReadThreads
 pub mod ReadSymbols
 pub mod Built
 pub mod Stored
+pub mod Counted
+pub mod Narrow
+pub mod Ends
+pub mod Carried

@@ -1,5 +1,6 @@
 -- The bytes of the files that are made of a code, cells and symbols.
 use Rattle.std.specs.Prelude.{ℕ, ◌+◌, List, [], ◌∷◌, ◌++◌, length, replicate, codes}
+use Rattle.ev_graph.specs.Memory.{Part}
 use Rattle.lasagne.specs.declared.elf_parts.FileHeader.{FileHeader}
 use Rattle.lasagne.specs.declared.elf_parts.ProgramHeader.{ProgramHeader}
 use Rattle.lasagne.specs.declared.elf_parts.Symbol.{Symbol}
@@ -27,6 +28,13 @@ code_header size = record { flags = 5; offset = 4096; address = 0x401000; file_s
 
 abbrev pub cells_header : ℕ → ℕ → ℕ → ProgramHeader
 cells_header offset address size = record { flags = 6; offset = offset; address = address; file_size = size; size = size }
+
+-- the segments of a built file
+abbrev pub code_segment : List ℕ → Part
+code_segment code = record { address = 0x401000; size = length code; flags = 5; bytes = code }
+
+abbrev pub cells_segment : List ℕ → ℕ → Part
+cells_segment cells address = record { address = address; size = length cells; flags = 6; bytes = cells }
 
 -- the header and the two program headers
 abbrev pub built_headers : ℕ → ℕ → ℕ → List ℕ

@@ -1,5 +1,5 @@
 -- What it means that the bytes of an image carry those of an input.
-use Rattle.std.specs.Prelude.{◌≡◌, ◌≤◌, ◌<◌, ℕ, zero, suc, ◌+◌, ◌%◌, ◌==◌, Bool, List, [], ◌∷◌, ◌++◌, length, bit_and, if◌then◌else◌}
+use Rattle.std.specs.Prelude.{◌≡◌, ◌≤◌, ◌<◌, ℕ, zero, suc, ◌+◌, ◌%◌, ◌==◌, Bool, List, [], ◌∷◌, ◌++◌, length, bit_and, max, if◌then◌else◌}
 use Rattle.std.specs.List.{AllByRecursion}
 use Rattle.ev_graph.specs.declared.execution.Execution.{Execution}
 use Rattle.ev_graph.specs.declared.execution.Stack.{Stack}
@@ -17,6 +17,11 @@ kept (part ∷ parts) = if part.size == 0 then kept parts else record part { fla
 -- no part ends behind the address
 abbrev pub EndBefore : ℕ → List Part → Type 0
 EndBefore address parts = AllByRecursion (λ part. part.address + part.size ≤ address) parts
+
+-- the highest of the ends
+abbrev pub highest_end : List Part → ℕ
+highest_end [] = 0
+highest_end (part ∷ parts) = max (part.address + part.size) (highest_end parts)
 
 -- the least multiple of 65,536 that is not below the end of any part
 pub record IsCodeAddress (parts : List Part) (address : ℕ) : Type 0 where

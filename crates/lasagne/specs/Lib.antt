@@ -12,3 +12,4 @@ pub mod Lines
 pub mod Ports
 pub mod Memories
 pub mod Calls
+pub mod Counting

@@ -9,5 +9,10 @@ mod image;
 mod plan;
 pub mod ports;
 mod symbols;
+mod translate;
+mod word;
 
 pub use image::{Image, ImageSegment};
+pub use plan::Summary;
+pub use translate::TransFault;
+pub use word::Word;

@@ -1,4 +1,6 @@
 ghost use Rattle.std.specs.Prelude.{◌≡◌, ℕ, ◌+◌, ◌<◌, ◌≤◌, ◌^◌, [], ◌∷◌, ◌++◌, length, false, IfOk};
+ghost use Rattle.lasagne.specs.Plan.{gap, summary_of};
+ghost use Rattle.lasagne.specs.Counting.{counts_of, nothing};
 
 use ev_graph::List;
 use x64_syntax::{Slot, SlotKind};
@@ -38,4 +40,98 @@ pub struct Summary {
     pub frm: u32,
     pub fww: u32,
     pub fsc: u32,
+}
+
+/// What is counted of a block: its accesses, and the gaps that hold each kind of fence.
+#[derive(Clone, Copy, Debug, PartialEq, Eq)]
+pub struct Counts {
+    pub accesses: u32,
+    pub frm: u32,
+    pub fww: u32,
+    pub fsc: u32,
+}
+
+/// The fences of a gap, by the slots at its ends and whether a full fence stands in it.
+fn gap_between(before: Option<SlotKind>, fenced: bool, after: Option<SlotKind>) -> Gap
+    ensures { result ≡ gap before fenced after }
+{
+    let locked = before == Some(SlotKind::Locked) || after == Some(SlotKind::Locked);
+    if fenced || locked {
+        Gap {
+            frm: false,
+            fww: false,
+            fsc: true,
+        }
+    } else {
+        Gap {
+            frm: before == Some(SlotKind::Read),
+            fww: after == Some(SlotKind::Write),
+            fsc: false,
+        }
+    }
+}
+
+impl Counts {
+    ghost use Rattle.std.specs.Prelude.{◌≡◌, ◌+◌, ◌<◌, ◌^◌};
+    ghost use Rattle.lasagne.specs.Counting.{with_gap, bit};
+
+    /// The counts with one gap more.
+    fn with_gap(self, gap: Gap) -> Counts
+        requires frm { self.frm + 1 < 2 ^ 32 }
+        requires fww { self.fww + 1 < 2 ^ 32 }
+        requires fsc { self.fsc + 1 < 2 ^ 32 }
+        ensures { result ≡ with_gap self gap }
+    {
+        Counts {
+            accesses: self.accesses,
+            frm: self.frm + u32::from(gap.frm),
+            fww: self.fww + u32::from(gap.fww),
+            fsc: self.fsc + u32::from(gap.fsc),
+        }
+    }
+}
+
+/// The counts of a block's marks, none of which is private.
+fn count_marks(marks: &[Mark]) -> Counts
+    requires { length marks.now < 2 ^ 31 }
+    ensures { result ≡ counts_of nothing None false marks.now }
+{
+    let mut counts = Counts {
+        accesses: 0,
+        frm: 0,
+        fww: 0,
+        fsc: 0,
+    };
+    let mut before = None;
+    let mut fenced = false;
+    for mark in marks {
+        match *mark {
+            Mark::FullFence => fenced = true,
+            Mark::Access(slot) => {
+                counts = counts.with_gap(gap_between(before, fenced, Some(slot.kind)));
+                counts.accesses += 1;
+                before = Some(slot.kind);
+                fenced = false;
+            }
+        }
+    }
+    counts.with_gap(gap_between(before, fenced, None))
+}
+
+/// The summary of threads that all run one block, none of whose accesses is private.
+pub fn summarize(threads: u32, block: &Block) -> Summary
+    requires { length block.now.marks < 2 ^ 31 }
+    ensures { result ≡ summary_of nothing threads (block.now ∷ []) }
+{
+    let counts = count_marks(block.marks.as_slice());
+    Summary {
+        threads,
+        instructions: block.instructions,
+        blocks: 1,
+        accesses: counts.accesses,
+        private: 0,
+        frm: counts.frm,
+        fww: counts.fww,
+        fsc: counts.fsc,
+    }
 }

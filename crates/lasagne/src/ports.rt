@@ -9,8 +9,10 @@ mod memory_shelf;
 mod memory_sink;
 mod std_sink;
 
+pub use disk_shelf::DiskShelf;
 pub use memory_shelf::{MemShelf, NamedFile};
 pub use memory_sink::MemSink;
+pub use std_sink::StdSink;
 
 /// Why a file was not given.
 #[derive(Clone, Copy, Debug, PartialEq, Eq)]
