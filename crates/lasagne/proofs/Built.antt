@@ -170,3 +170,16 @@ address_in_built code cells name address symbols ready =
     (omega (arith, low)) (omega (arith, low, ready.tables_size)) (omega (arith, ready.tables_size)) (omega (arith, ready.tables_size)) held_t held_n
     ∙ ap (λ c. value_from name t n 0 c) (entries_counted symbols)
     ∙ table_searched name symbols ready.well
+
+-- how long a built file is
+pub length-built : (code cells : List ℕ) (address : ℕ) (symbols : List Symbol) → IsBuildable code cells address symbols
+    → length (built_file code cells address symbols) ≡ cells_at (length code) + 0x2000 + 192
+length-built code cells address symbols ready =
+    let d = cells_at (length code) in
+    let t = symbol_table symbols in
+    let n = string_table symbols in
+    let front = padded (padded (padded (built_headers (length code) (length cells) address) 4096 ++ code) d ++ cells) (d + 4096) in
+    let to_tables : length front ≡ d + 4096 = length-to_tables code cells address ready.cells_size in
+    let before : length (padded (front ++ (t ++ n)) (d + 0x2000)) ≡ d + 0x2000 =
+    ap (λ k. length (padded (front ++ (t ++ n)) k)) (twice d) ∙ length-to_sections front t n (d + 4096) to_tables ready.tables_size ∙ sym (twice d) in
+    length-append (padded (front ++ (t ++ n)) (d + 0x2000)) (built_sections (d + 4096) (length t) (length n)) ∙ ap (λ k. k + 192) before

@@ -14,7 +14,15 @@ use Rattle.lasagne.specs.ElfFile.{segments_of, threads_of}
 use Rattle.lasagne.specs.ElfParts.{symbol_table, string_table, symbol_names, symbol_entries}
 use Rattle.lasagne.specs.ImageFile.{image_file, code_part, offset_after, end_of, parts_at, places_of, places_from, thread_symbols, section_names}
 use Rattle.lasagne.specs.Accepted.{HasNoFault}
-use Rattle.lasagne.specs.Carries.{Carries, kept, IsCodeAddress}
+use Rattle.order_models.specs.Orders.{Arm}
+use Rattle.order_models.specs.Consistent.{Consistent}
+use Rattle.x64_table.specs.declared.narrow.Narrow.TheVariants.{Ret}
+use Rattle.lasagne.specs.declared.plan.Summary.{Summary}
+use Rattle.lasagne.specs.Carries.{Carries, CarriesInArm, IsOneThreadImage, kept, IsCodeAddress}
+use Rattle.lasagne.specs.Counting.{nothing}
+use Rattle.lasagne.specs.Plan.{summary_of}
+use Rattle.lasagne.specs.Lines.{Placed, AreLines, HasSummary, block_of, blocks_of, distinct}
+use Rattle.lasagne.specs.Return.{return_words}
 use Rattle.lasagne.proofs.Tables.{length-code, length-thread_names}
 use Rattle.lasagne.proofs.ReadParts.{FitsFields, AllFit}
 use Rattle.lasagne.proofs.ReadImage.{segments_of_image}
@@ -68,10 +76,10 @@ kept_narrow code cells words address some_code some_cells =
     let one : (length code == 0) ≡ false = not_zero (length code) some_code in
     let two : (length cells == 0) ≡ false = not_zero (length cells) some_cells in
     ap (λ b. (if b then (if length cells == 0 then [] else record { address = 0x404000; size = length cells; flags = 6; bytes = cells } ∷ [])
-        else record { address = 0x401000; size = length code; flags = 4; bytes = code } ∷ (if length cells == 0 then [] else record { address = 0x404000; size = length cells; flags = 6; bytes = cells } ∷ []))
-        ++ code_part address words ∷ []) one
+    else record { address = 0x401000; size = length code; flags = 4; bytes = code } ∷ (if length cells == 0 then [] else record { address = 0x404000; size = length cells; flags = 6; bytes = cells } ∷ []))
+    ++ code_part address words ∷ []) one
     ∙ ap (λ b. (record { address = 0x401000; size = length code; flags = 4; bytes = code } ∷ (if b then [] else record { address = 0x404000; size = length cells; flags = 6; bytes = cells } ∷ []))
-        ++ code_part address words ∷ []) two
+    ++ code_part address words ∷ []) two
 
 -- tables that are short end early
 sections_short : (end t n : ℕ) → end < 2 ^ 62 → t ≤ 2 ^ 32 → n ≤ 2 ^ 32 → (places_from end t n).sections < 2 ^ 64
@@ -81,7 +89,7 @@ table_short : (address : ℕ) → length (symbol_table (thread_symbols 0 (addres
 table_short address =
     let long = length-symbol_entries (thread_symbols 0 (address ∷ [])) 1 in
     let whole : length (symbol_table (thread_symbols 0 (address ∷ []))) ≡ 24 + length (symbol_entries 1 (thread_symbols 0 (address ∷ []))) =
-        length-append (replicate 24 0) (symbol_entries 1 (thread_symbols 0 (address ∷ []))) in
+    length-append (replicate 24 0) (symbol_entries 1 (thread_symbols 0 (address ∷ []))) in
     omega (arith, long, whole)
 
 names_short : (address : ℕ) → length (string_table (thread_symbols 0 (address ∷ []))) ≤ 2 ^ 32
@@ -102,10 +110,15 @@ narrow_readable code cells words address few_code few_cells few_words low =
     let h3 = offset_after_lt (o2 + length cells) address in
     record {
       few_parts = lit< tt;
-      fields =
-        (record { address = lit< tt; size = omega (arith, few_code); flags = lit< tt; bytes = omega (arith, few_code) }, omega (arith, h1),
-        (record { address = lit< tt; size = omega (arith, few_cells); flags = lit< tt; bytes = omega (arith, few_cells) }, omega (arith, h1, h2, few_code),
-        (record { address = low; size = omega (arith, few_words); flags = lit< tt; bytes = omega (arith, long, few_words) }, omega (arith, h1, h2, h3, few_code, few_cells), tt)));
+      fields = (
+        record { address = lit< tt; size = omega (arith, few_code); flags = lit< tt; bytes = omega (arith, few_code) },
+        omega (arith, h1),
+        (
+          record { address = lit< tt; size = omega (arith, few_cells); flags = lit< tt; bytes = omega (arith, few_cells) },
+          omega (arith, h1, h2, few_code),
+          (record { address = low; size = omega (arith, few_words); flags = lit< tt; bytes = omega (arith, long, few_words) }, omega (arith, h1, h2, h3, few_code, few_cells), tt),
+        ),
+      );
       few_threads = lit≤ tt;
       addresses = (low, tt);
       short = sections_short (o3 + length bytes) _ _ (omega (arith, h1, h2, h3, few_code, few_cells, long, few_words)) (table_short address) (names_short address);
@@ -122,17 +135,17 @@ narrow_carries private order bound input image words address fault behind low fe
     let one : length code ≡ 1 = ap length fault.built in
     let size = fault.cell_count in
     let segments : segments_of input ≡ code_segment code ∷ cells_segment cells 0x404000 ∷ [] =
-        ap segments_of fault.file ∙ segments_of_narrow code cells (omega (arith, one)) (omega (arith, size)) in
+    ap segments_of fault.file ∙ segments_of_narrow code cells (omega (arith, one)) (omega (arith, size)) in
     let threads : threads_of input ≡ 0x401000 ∷ [] = ap threads_of fault.file ∙ threads_of_narrow code cells (omega (arith, one)) (omega (arith, size)) in
     let keeps : kept (code_segment code ∷ cells_segment cells 0x404000 ∷ []) ++ code_part address words ∷ [] ≡ narrow_parts code cells address words =
-        kept_narrow code cells words address (omega (arith, one)) (omega (arith, size)) in
+    kept_narrow code cells words address (omega (arith, one)) (omega (arith, size)) in
     let whole : image ≡ image_file (narrow_parts code cells address words) (address ∷ []) = file ∙ ap (λ parts. image_file parts (address ∷ [])) keeps in
     let ready = narrow_readable code cells words address (omega (arith, one)) (omega (arith, size)) few low in
     let said : segments_of image ≡ narrow_parts code cells address words =
-        ap segments_of whole ∙ segments_of_image (narrow_parts code cells address words) (address ∷ []) ready.few_parts ready.fields in
+    ap segments_of whole ∙ segments_of_image (narrow_parts code cells address words) (address ∷ []) ready.few_parts ready.fields in
     let begun : threads_of image ≡ address ∷ [] = ap threads_of whole ∙ threads_of_image (narrow_parts code cells address words) (address ∷ []) ready in
     let from_input : kept (segments_of input) ++ code_part address words ∷ [] ≡ narrow_parts code cells address words =
-        ap (λ parts. kept parts ++ code_part address words ∷ []) segments ∙ keeps in
+    ap (λ parts. kept parts ++ code_part address words ∷ []) segments ∙ keeps in
     let counted : length (threads_of image) ≡ length (threads_of input) = ap length begun ∙ sym (ap length threads) in
     record {
       no_fault = fault;
@@ -143,5 +156,30 @@ narrow_carries private order bound input image words address fault behind low fe
       threads = counted;
       bytes = whole ∙ ap (λ parts. image_file parts (address ∷ [])) (sym said) ∙ ap (λ ts. image_file (segments_of image) ts) (sym begun);
       layouts = λ stacks fits. fits_kept (segments_of input) (code_part address words ∷ []) (length (threads_of image)) (length (threads_of input)) stacks counted
-        (subst (λ parts. Fits parts (length (threads_of image)) stacks) (said ∙ sym from_input) fits);
+          (subst (λ parts. Fits parts (length (threads_of image)) stacks) (said ∙ sym from_input) fits);
+    }
+
+-- what is made of a file that has no fault carries it
+pub image_carries : (input cells image : List ℕ) → length cells ≡ 64 → input ≡ narrow_file (0xC3 ∷ []) cells
+    → IsOneThreadImage (code_segment (0xC3 ∷ []) ∷ cells_segment cells 0x404000 ∷ []) return_words image → CarriesInArm input image
+image_carries input cells image size file made =
+    narrow_carries nothing (Consistent Arm false) 256 input image return_words made.address
+    (record { code = 0xC3 ∷ []; cells = cells; built = refl; cell_count = size; file = file }) made.behind made.fits (lit≤ tt) made.file
+
+-- and its summary is that of one return
+pub return_summarized : (input cells : List ℕ) (summary : Summary) → length cells ≡ 64 → input ≡ narrow_file (0xC3 ∷ []) cells
+    → summary ≡ summary_of nothing 1 (block_of 0x401000 (record { address = 0x401000; instr = Ret; size = 1 } ∷ []) ∷ [])
+    → HasSummary nothing input summary
+return_summarized input cells summary size file counted =
+    let line : List Placed = record { address = 0x401000; instr = Ret; size = 1 } ∷ [] in
+    let segments : segments_of input ≡ code_segment (0xC3 ∷ []) ∷ cells_segment cells 0x404000 ∷ [] =
+    ap segments_of file ∙ segments_of_narrow (0xC3 ∷ []) cells (lit≤ tt) (omega (arith, size)) in
+    let threads : threads_of input ≡ 0x401000 ∷ [] = ap threads_of file ∙ threads_of_narrow (0xC3 ∷ []) cells (lit≤ tt) (omega (arith, size)) in
+    let here : AreLines (code_segment (0xC3 ∷ []) ∷ cells_segment cells 0x404000 ∷ []) (0x401000 ∷ []) (line ∷ []) =
+    ((record { here = refl; spelled = record { spelling = 0xC3 ∷ []; rest = []; spelled = refl; parts = refl; long = refl } }, refl), tt) in
+    record {
+      lines = line ∷ [];
+      stand = subst (λ (ts : List ℕ). AreLines (segments_of input) (distinct ts) (line ∷ [])) (sym threads)
+          (subst (λ (parts : List Part). AreLines parts (0x401000 ∷ []) (line ∷ [])) (sym segments) here);
+      counted = counted ∙ ap (λ (ts : List ℕ). summary_of nothing (length ts) (blocks_of (distinct ts) (line ∷ []))) (sym threads);
     }

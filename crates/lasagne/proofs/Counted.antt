@@ -21,16 +21,16 @@ sum_of_one f block = omega arith
 summary_is : {a b c d e f g h b' d' e' f' g' h' : ℕ}
     → b ≡ b' → d ≡ d' → e ≡ e' → f ≡ f' → g ≡ g' → h ≡ h'
     → ◌≡◌ {A = Summary} (record { threads = a; instructions = b; blocks = c; accesses = d; private = e; frm = f; fww = g; fsc = h })
-        (record { threads = a; instructions = b'; blocks = c; accesses = d'; private = e'; frm = f'; fww = g'; fsc = h' })
+    (record { threads = a; instructions = b'; blocks = c; accesses = d'; private = e'; frm = f'; fww = g'; fsc = h' })
 summary_is {a = a} {c = c} p q r s t u = λ i. record { threads = a; instructions = p i; blocks = c; accesses = q i; private = r i; frm = s i; fww = t i; fsc = u i }
 
 pub summary_of_one : (threads : ℕ) (block : Block) (counts : Counts) → counts ≡ counts_of nothing None false block.marks
     → ◌≡◌ {A = Summary} (record { threads = threads; instructions = block.instructions; blocks = 1; accesses = counts.accesses; private = 0; frm = counts.frm; fww = counts.fww; fsc = counts.fsc })
-        (summary_of nothing threads (block ∷ []))
+    (summary_of nothing threads (block ∷ []))
 summary_of_one threads block counts e =
     summary_is (sum_of_one (λ b. b.instructions) block)
-        (ap (λ (c : Counts). c.accesses) e ∙ sum_of_one (λ b. length (slots_of b.marks)) block)
-        (sym (count_nothing (slots_of block.marks)) ∙ sum_of_one (λ b. count_by nothing (slots_of b.marks)) block)
-        (ap (λ (c : Counts). c.frm) e ∙ sum_of_one (λ b. count_by (λ (g : Gap). g.frm) (gaps nothing b)) block)
-        (ap (λ (c : Counts). c.fww) e ∙ sum_of_one (λ b. count_by (λ (g : Gap). g.fww) (gaps nothing b)) block)
-        (ap (λ (c : Counts). c.fsc) e ∙ sum_of_one (λ b. count_by (λ (g : Gap). g.fsc) (gaps nothing b)) block)
+    (ap (λ (c : Counts). c.accesses) e ∙ sum_of_one (λ b. length (slots_of b.marks)) block)
+    (sym (count_nothing (slots_of block.marks)) ∙ sum_of_one (λ b. count_by nothing (slots_of b.marks)) block)
+    (ap (λ (c : Counts). c.frm) e ∙ sum_of_one (λ b. count_by (λ (g : Gap). g.frm) (gaps nothing b)) block)
+    (ap (λ (c : Counts). c.fww) e ∙ sum_of_one (λ b. count_by (λ (g : Gap). g.fww) (gaps nothing b)) block)
+    (ap (λ (c : Counts). c.fsc) e ∙ sum_of_one (λ b. count_by (λ (g : Gap). g.fsc) (gaps nothing b)) block)

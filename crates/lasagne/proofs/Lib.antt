@@ -10,3 +10,4 @@ pub mod Counted
 pub mod Narrow
 pub mod Ends
 pub mod Carried
+pub mod Endings

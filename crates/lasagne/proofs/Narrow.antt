@@ -3,11 +3,11 @@ use Rattle.std.proofs.Common.{◌≡◌, ℕ, ◌+◌, ◌-◌, ◌*◌, ◌^◌
 use Rattle.std.proofs.lemmas.List.{length-take, length-drop}
 use Rattle.ev_graph.specs.Memory.{Part}
 use Rattle.lasagne.specs.Bytes.{range_at}
-use Rattle.lasagne.specs.BuiltFile.{narrow_file, narrow_symbols, code_segment, cells_segment}
+use Rattle.lasagne.specs.BuiltFile.{cells_at, narrow_file, narrow_symbols, code_segment, cells_segment}
 use Rattle.lasagne.specs.ElfFile.{segments_of, threads_of}
 use Rattle.lasagne.specs.ImageFile.{thread_name, thread_symbols}
 use Rattle.lasagne.specs.Accepted.{HasNoFault}
-use Rattle.lasagne.proofs.Built.{cells_held, segments_of_built, address_in_built, IsBuildable}
+use Rattle.lasagne.proofs.Built.{cells_held, segments_of_built, address_in_built, IsBuildable, length-built}
 use Rattle.std.specs.Prelude.{codes, decimal}
 use Rattle.std.proofs.lemmas.Fmt.{decimal_digit}
 use Rattle.lasagne.specs.declared.elf_parts.Symbol.{Symbol}
@@ -59,6 +59,17 @@ pub threads_of_narrow : (code cells : List ℕ) → length code ≤ 4096 → len
     → threads_of (narrow_file code cells) ≡ 0x401000 ∷ []
 threads_of_narrow code cells few_code few_cells =
     threads_counted (0x401000 ∷ []) (λ k. address_of (narrow_file code cells) (thread_name k)) 0 16
-        (λ i low. address_in_built code cells (thread_name (0 + i)) 0x404000 narrow_symbols (narrow_ready code cells few_code few_cells)
-            ∙ sym (ap (λ (symbols : List Symbol). address_in (thread_name (0 + i)) symbols) narrow_symbols-are)
-            ∙ thread_found (0x401000 ∷ []) 0 i (omega arith)) (lit≤ tt)
+    (λ i low. address_in_built code cells (thread_name (0 + i)) 0x404000 narrow_symbols (narrow_ready code cells few_code few_cells)
+    ∙ sym (ap (λ (symbols : List Symbol). address_in (thread_name (0 + i)) symbols) narrow_symbols-are)
+    ∙ thread_found (0x401000 ∷ []) 0 i (omega arith)) (lit≤ tt)
+
+-- a narrow file is short
+pub length-narrow : (code cells : List ℕ) → length code ≡ 1 → length cells ≡ 64 → length (narrow_file code cells) ≤ 32768
+length-narrow code cells one size =
+    let ready = narrow_ready code cells (omega (arith, one)) (omega (arith, size)) in
+    let long = length-built code cells 0x404000 narrow_symbols ready in
+    let at : cells_at (length code) ≡ 8192 = ap cells_at one in
+    omega (arith, long, at)
+
+pub narrow_short : (bytes : List ℕ) → HasNoFault bytes → length bytes ≤ 32768
+narrow_short bytes h = subst (λ n. n ≤ 32768) (sym (ap length h.file)) (length-narrow h.code h.cells (ap length h.built) h.cell_count)

@@ -1,10 +1,13 @@
 -- What it means that the bytes of an image carry those of an input.
-use Rattle.std.specs.Prelude.{◌≡◌, ◌≤◌, ◌<◌, ℕ, zero, suc, ◌+◌, ◌%◌, ◌==◌, Bool, List, [], ◌∷◌, ◌++◌, length, bit_and, max, if◌then◌else◌}
+use Rattle.std.specs.Prelude.{◌≡◌, ◌≤◌, ◌<◌, ◌^◌, ℕ, zero, suc, ◌+◌, ◌%◌, ◌==◌, Bool, false, List, [], ◌∷◌, ◌++◌, length, bit_and, max, if◌then◌else◌}
 use Rattle.std.specs.List.{AllByRecursion}
 use Rattle.ev_graph.specs.declared.execution.Execution.{Execution}
 use Rattle.ev_graph.specs.declared.execution.Stack.{Stack}
 use Rattle.ev_graph.specs.Memory.{Part, Fits}
 use Rattle.x64_syntax.specs.declared.slots.Slot.{Slot}
+use Rattle.order_models.specs.Orders.{Arm}
+use Rattle.order_models.specs.Consistent.{Consistent}
+use Rattle.lasagne.specs.Counting.{nothing}
 use Rattle.lasagne.specs.ElfFile.{segments_of, threads_of}
 use Rattle.lasagne.specs.ImageFile.{image_file, code_part}
 use Rattle.lasagne.specs.Accepted.{HasNoFault}
@@ -45,3 +48,14 @@ pub record Carries (private : Slot → Bool) (order : Execution → Type 0) (bou
   pub bytes : image ≡ image_file (segments_of image) (threads_of image)
   -- a layout of stacks that fits the image fits the input
   pub layouts : (stacks : List Stack) → Fits (segments_of image) (length (threads_of image)) stacks → Fits (segments_of input) (length (threads_of input)) stacks
+
+-- These are the bytes of an image with the kept parts of an input, these words behind them, and one thread that begins there.
+pub record IsOneThreadImage (parts : List Part) (words bytes : List ℕ) : Type 0 where
+  pub address : ℕ
+  pub behind : IsCodeAddress (kept parts) address
+  pub fits : address < 2 ^ 64
+  pub file : bytes ≡ image_file (kept parts ++ code_part address words ∷ []) (address ∷ [])
+
+-- The image carries the input, in the Armv8 order, with a bound of 256, where no slot is private.
+abbrev pub CarriesInArm : List ℕ → List ℕ → Type 0
+CarriesInArm input image = Carries nothing (Consistent Arm false) 256 input image

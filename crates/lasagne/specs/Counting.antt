@@ -23,10 +23,11 @@ with_gap counts g = record counts { frm = counts.frm + bit g.frm; fww = counts.f
 -- the counts of marks behind this slot, with a full fence in the first gap or not
 abbrev pub counts_of : (Slot → Bool) → Option SlotKind → Bool → List Mark → Counts
 counts_of private before fenced marks = record {
-    accesses = length (slots_of marks);
-    frm = count_by (λ g. g.frm) (gaps_from private before fenced marks);
-    fww = count_by (λ g. g.fww) (gaps_from private before fenced marks);
-    fsc = count_by (λ g. g.fsc) (gaps_from private before fenced marks) }
+  accesses = length (slots_of marks);
+  frm = count_by (λ g. g.frm) (gaps_from private before fenced marks);
+  fww = count_by (λ g. g.fww) (gaps_from private before fenced marks);
+  fsc = count_by (λ g. g.fsc) (gaps_from private before fenced marks);
+}
 
 -- counts together
 abbrev pub added : Counts → Counts → Counts

@@ -1,6 +1,5 @@
 -- The parts of an image, and what its writer needs of it.
 use Rattle.std.specs.Prelude.{◌≡◌, ◌≤◌, ◌<◌, ℕ, ◌+◌, ◌*◌, ◌^◌, List, [], ◌∷◌, ◌++◌, length, map}
-use Rattle.std.specs.List.{AllByRecursion}
 use Rattle.ev_graph.specs.Memory.{Part}
 use Rattle.lasagne.specs.declared.image.Image.{Image}
 use Rattle.lasagne.specs.declared.image.ImageSegment.{ImageSegment}
@@ -14,14 +13,8 @@ segment_part segment = record { address = segment.address; size = segment.size; 
 abbrev pub parts_of : Image → List Part
 parts_of image = map segment_part image.segments ++ code_part image.code_address image.words ∷ []
 
--- a segment has no more bytes than its size, and ends at 2 ^ 46 at most
-pub record IsInRange (segment : ImageSegment) : Type 0 where
-  pub filled : length segment.bytes ≤ segment.size
-  pub end : segment.address + segment.size ≤ 2 ^ 46
-
--- what an image has to meet to be written
+-- what an image has to meet to be written: 64 segments at most, and 1 to 16 threads
 pub record IsWritable (image : Image) : Type 0 where
   pub segments : length image.segments ≤ 64
-  pub in_range : AllByRecursion IsInRange image.segments
   pub some_thread : 0 < length image.threads
   pub threads : length image.threads ≤ 16

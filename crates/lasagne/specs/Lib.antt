@@ -13,3 +13,6 @@ pub mod Ports
 pub mod Memories
 pub mod Calls
 pub mod Counting
+pub mod Return
+pub mod Texts
+pub mod Command

@@ -4,15 +4,17 @@
 #![tactic(auto)]
 
 mod built_file;
+mod command;
 mod elf_parts;
 mod image;
 mod plan;
 pub mod ports;
 mod symbols;
-mod translate;
+mod translation;
 mod word;
 
+pub use command::{Status, run};
 pub use image::{Image, ImageSegment};
 pub use plan::Summary;
-pub use translate::TransFault;
+pub use translation::{TransFault, Translated, translate};
 pub use word::Word;

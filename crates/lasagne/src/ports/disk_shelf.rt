@@ -52,12 +52,7 @@ impl<'a, R: Files> Shelf for DiskShelf<'a, R> {
 }
 
 /// The bytes of a file, of which at most one more than the limit are read.
-fn read_file<R: Files>(
-    rt: &R,
-    alloc: Global,
-    name: &str,
-    limit: u64,
-) -> Result<Vec<u8>, GetFault>
+fn read_file<R: Files>(rt: &R, alloc: Global, name: &str, limit: u64) -> Result<Vec<u8>, GetFault>
     ensures { IfOk result (λ v. length v.items ≤ limit) }
 {
     let mut file = fs::open(rt, name).map_err(|_| GetFault::Failed)?;
@@ -73,7 +68,9 @@ fn read_file<R: Files>(
         if count as u64 > left {
             return Err(GetFault::TooLong);
         }
-        bytes.extend_from_slice(&piece[..count]).map_err(|_| GetFault::NoMemory)?;
+        bytes
+            .extend_from_slice(&piece[..count])
+            .map_err(|_| GetFault::NoMemory)?;
     }
     Err(GetFault::Failed)
 }

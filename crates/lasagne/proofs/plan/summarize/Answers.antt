@@ -8,4 +8,4 @@ use Rattle.lasagne.proofs.plan.summarize.Goals as goal
 pub returns : goal.returns
 returns c =
     summary_of_one c.args.threads c.args.block.now c.count_marks-counts.result
-        (c.count_marks-counts.ensures ∙ ap (λ (marks : List Mark). counts_of nothing None false marks) c.as_slice.ensures)
+    (c.count_marks-counts.ensures ∙ ap (λ (marks : List Mark). counts_of nothing None false marks) c.as_slice.ensures)

@@ -2,7 +2,7 @@ use Rattle.std.proofs.Common.{◌≡◌, ◌≤◌, ◌<◌, ◌+◌, ◌*◌, �
 use Rattle.lasagne.specs.Image.{segment_part}
 use Rattle.lasagne.specs.Carries.{highest_end}
 use Rattle.lasagne.proofs.Ends.{rounded_is}
-use Rattle.lasagne.proofs.translate.code_address.Goals as goal
+use Rattle.lasagne.proofs.translation.code_address.Goals as goal
 
 pub returns : goal.returns
 returns c = rounded_is (map segment_part c.args.segments.now) c.highest_end.result c.highest_end.ensures.value

@@ -2,7 +2,7 @@ use Rattle.std.proofs.Common.{◌≡◌, ◌≤◌, ◌^◌, drop, map}
 use Rattle.std.specs.Prelude.{max}
 use Rattle.lasagne.specs.Image.{segment_part}
 use Rattle.lasagne.specs.Carries.{EndBefore, highest_end}
-use Rattle.lasagne.proofs.translate.highest_end.Given as goal
+use Rattle.lasagne.proofs.translation.highest_end.Given as goal
 
 abbrev pub invariant-loop-segment : goal.invariant-loop-segment
 invariant-loop-segment l = record {

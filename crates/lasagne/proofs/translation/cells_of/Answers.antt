@@ -1,6 +1,6 @@
 use Rattle.std.proofs.Common.{◌≡◌, ◌∙◌, ap, sym, List, ℕ}
 use Rattle.lasagne.proofs.Narrow.{made_again, long_enough}
-use Rattle.lasagne.proofs.translate.cells_of.Goals as goal
+use Rattle.lasagne.proofs.translation.cells_of.Goals as goal
 
 pub returns-then-is_same-clause-file : goal.returns-then-is_same-clause-file
 returns-then-is_same-clause-file c = sym (c.if-is_same.ensures) ∙ c.deref.ensures.value ∙ c.in_ok-expected.ensures

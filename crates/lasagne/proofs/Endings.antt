@@ -1,0 +1,63 @@
+-- How the parts of a command's end come together.
+use Rattle.std.proofs.Common.{◌≡◌, ℕ, ◌+◌, ◌-◌, ◌*◌, ◌^◌, ◌<◌, ◌≤◌, List, [], ◌∷◌, ◌++◌, length, arith, sym, ◌∙◌, ap, refl, subst, inl, inr}
+use Rattle.std.specs.Prelude.{◌⊎◌, min, Option, Some, None, IfSome, take}
+use Rattle.lasagne.specs.declared.command.Status.{Status}
+use Rattle.lasagne.specs.declared.command.Status.TheVariants as status
+use Rattle.lasagne.specs.declared.plan.Summary.{Summary}
+use Rattle.lasagne.specs.Ports.{Files, Rose, IsPut, IsTorn, IsLonger, Told, Took, TookPart}
+use Rattle.lasagne.specs.Accepted.{HasNoFault}
+use Rattle.lasagne.specs.Carries.{CarriesInArm}
+use Rattle.lasagne.specs.Counting.{nothing}
+use Rattle.lasagne.specs.Lines.{HasSummary}
+use Rattle.lasagne.specs.Texts.{usage_line, unbuilt_line, translated_line}
+use Rattle.lasagne.specs.Command.{World, Ends, Answers, HasFault, IsSaid, OfImage, HasImageAnd, HasImage, SameFiles, SameTaken}
+use Rattle.lasagne.proofs.Narrow.{narrow_short}
+
+-- a count that rose later rose
+pub rose_later : (a b c : ℕ) → a ≤ b → Rose b c → Rose a c
+rose_later a b c low rose = omega (arith, rose)
+
+-- a file that is too long has a fault
+pub longer_has_fault : (files : Option Files) (name : List ℕ) (limit before now : ℕ) → limit ≡ 67108864
+    → IfSome files (λ f. IsLonger f name limit × (Rose before now → ⊥)) → IfSome files (λ f. (bytes : List ℕ) × (f name ≡ Some bytes) × (HasNoFault bytes → ⊥))
+longer_has_fault None name limit before now e longer = longer
+longer_has_fault (Some f) name limit before now e longer =
+    (longer.0.bytes, longer.0.here, (λ fault. omega (arith, e, longer.0.longer, narrow_short longer.0.bytes fault)))
+
+-- so has one that was not translated
+pub unbuilt_has_fault : (files : Option Files) (name items bytes : List ℕ) → bytes ≡ items → (HasNoFault bytes → ⊥)
+    → IfSome files (λ f. f name ≡ Some items) → IfSome files (λ f. (bytes : List ℕ) × (f name ≡ Some bytes) × (HasNoFault bytes → ⊥))
+unbuilt_has_fault None name items bytes same none read = read
+unbuilt_has_fault (Some f) name items bytes same none read = (items, read, (λ fault. none (subst HasNoFault (sym same) fault)))
+
+-- what was read, under another name for the same bytes
+pub read_same : (files : Option Files) (name items bytes : List ℕ) → bytes ≡ items → IfSome files (λ f. f name ≡ Some items) → IfSome files (λ f. f name ≡ Some bytes)
+read_same None name items bytes same read = read
+read_same (Some f) name items bytes same read = read ∙ ap Some (sym same)
+
+-- the end of a refusal
+pub refused : (result : Status) (from to : List ℕ) (old new : World) → HasFault from old → SameFiles old new
+    → IsSaid unbuilt_line status.Refused old.taken old.sink_faults new.taken new.sink_faults result → Ends result from to old new
+refused result from to old new fault same (inl said) = subst (λ s. Ends s from to old new) (sym said.0) (fault, same, said.1)
+refused result from to old new fault same (inr none) = subst (λ s. Ends s from to old new) (sym none.0) (none.1, inl same)
+
+-- an image that was made of what was read
+pub of_image : {P : List ℕ → List ℕ → Type 0} (from : List ℕ) (old : World) (items input image : List ℕ) → input ≡ items
+    → IfSome old.files (λ f. f from ≡ Some items) → CarriesInArm input image → P input image → OfImage from old P
+of_image from old items input image same read carries holds = (input, image, carries, read_same old.files from items input same read, holds)
+
+-- what a `put` after a `get` left, as seen from before both
+pub put_image : (old read new : Option Files) (to bytes image : List ℕ) → read ≡ old → bytes ≡ image → Told read new (IsPut to bytes) → Told old new (IsPut to image)
+put_image old read new to bytes image same file told =
+    subst (λ (fs : Option Files). Told fs new (IsPut to image)) same (subst (λ (b : List ℕ). Told read new (IsPut to b)) file told)
+
+pub torn_image : (old read new : Option Files) (to bytes image : List ℕ) → read ≡ old → bytes ≡ image → Told read new (IsTorn to bytes) → Told old new (IsTorn to image)
+torn_image old read new to bytes image same file told =
+    subst (λ (fs : Option Files). Told fs new (IsTorn to image)) same (subst (λ (b : List ℕ). Told read new (IsTorn to b)) file told)
+
+-- what was written is the line
+pub took_line : (old new : Option (List ℕ)) (text written : List ℕ) → text ≡ written → Told old new (Took text) → Told old new (Took written)
+took_line old new text written same told = subst (λ (t : List ℕ). Told old new (Took t)) same told
+
+pub took_part : (old new : Option (List ℕ)) (text written : List ℕ) → text ≡ written → Told old new (TookPart text) → Told old new (TookPart written)
+took_part old new text written same told = subst (λ (t : List ℕ). Told old new (TookPart t)) same told

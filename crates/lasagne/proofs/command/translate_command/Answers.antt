@@ -1,0 +1,62 @@
+use Rattle.std.proofs.Common.{◌≡◌, ◌∙◌, ap, refl, subst, inl, inr, List, ℕ}
+use Rattle.std.specs.Prelude.{Option}
+use Rattle.lasagne.specs.Ports.{Files, Rose, IsPut, IsTorn, Told, Took, TookPart}
+use Rattle.lasagne.specs.Command.{OfImage, HasImage, HasImageAnd}
+use Rattle.lasagne.proofs.Endings.{longer_has_fault, unbuilt_has_fault, refused, of_image, rose_later, put_image, torn_image, took_line, took_part}
+use Rattle.lasagne.proofs.command.translate_command.Goals as goal
+
+pub returns-in-Err-TooLong : goal.returns-in-Err-TooLong
+returns-in-Err-TooLong g c =
+    refused c.say.result c.args.from.now c.args.to.now _ _
+    (longer_has_fault _ c.args.from.now 67108864 _ _ refl (c.in-Err-TooLong.ensures.too_long (cc))) c.in-Err-TooLong.ensures.same c.say.ensures
+
+pub returns-in-Err-Unbuilt : goal.returns-in-Err-Unbuilt
+returns-in-Err-Unbuilt g c =
+    refused c.say-in-Err-Unbuilt.result c.args.from.now c.args.to.now _ _
+    (unbuilt_has_fault _ c.args.from.now c.in-Ok.bytes.items c.deref.result.now c.deref.ensures.value (c.in-Err-Unbuilt.ensures.unbuilt (cc)) c.in-Ok.ensures.bytes)
+    c.in-Ok.ensures.same c.say-in-Err-Unbuilt.ensures
+
+pub returns-in_default : goal.returns-in_default
+returns-in_default g c = (refl, inl c.in-Ok.ensures.same)
+
+pub returns-in-Err-Failed-put : goal.returns-in-Err-Failed-put
+returns-in-Err-Failed-put g c = (
+  rose_later _ _ _ c.in-Ok.ensures.cause.later (c.in-Err-Failed-put.ensures.cause.cause (cc)),
+  of_image c.args.from.now (record { files = g.H.Shelf.files c.args.shelf.now; taken = g.O.Sink.taken c.args.out.now; shelf_faults = g.H.Shelf.faults c.args.shelf.now; sink_faults = g.O.Sink.faults c.args.out.now }) c.in-Ok.bytes.items c.deref.result.now c.in-Ok-translate.made.file c.deref.ensures.value c.in-Ok.ensures.bytes
+      c.in-Ok-translate.ensures.carries
+      (torn_image _ _ _ c.args.to.now c.as_slice.result.now c.in-Ok-translate.made.file c.in-Ok.ensures.same c.as_slice.ensures (c.in-Err-Failed-put.ensures.failed (cc))),
+  refl,
+)
+
+pub returns-in-Err-NoMemory-put : goal.returns-in-Err-NoMemory-put
+returns-in-Err-NoMemory-put g c = (refl, inl (c.in-Err-NoMemory-put.ensures.no_memory (cc) ∙ c.in-Ok.ensures.same))
+
+pub returns-in-Ok-write_all : goal.returns-in-Ok-write_all
+returns-in-Ok-write_all g c =
+    of_image c.args.from.now (record { files = g.H.Shelf.files c.args.shelf.now; taken = g.O.Sink.taken c.args.out.now; shelf_faults = g.H.Shelf.faults c.args.shelf.now; sink_faults = g.O.Sink.faults c.args.out.now }) c.in-Ok.bytes.items c.deref.result.now c.in-Ok-translate.made.file c.deref.ensures.value c.in-Ok.ensures.bytes
+    c.in-Ok-translate.ensures.carries (
+      put_image _ _ _ c.args.to.now c.as_slice.result.now c.in-Ok-translate.made.file c.in-Ok.ensures.same c.as_slice.ensures c.in-Ok-put.ensures.ok,
+      c.in-Ok-translate.made.summary,
+      c.in-Ok-translate.ensures.summary,
+      took_line _ _ c.as_bytes.result.now _ (c.as_bytes.ensures.value ∙ c.in-Ok-line_of.ensures) c.in-Ok-write_all.ensures.ok,
+    )
+
+pub returns-in-Err-Failed-write_all : goal.returns-in-Err-Failed-write_all
+returns-in-Err-Failed-write_all g c = (
+  c.in-Err-Failed-write_all.ensures.cause.cause (cc),
+  of_image c.args.from.now (record { files = g.H.Shelf.files c.args.shelf.now; taken = g.O.Sink.taken c.args.out.now; shelf_faults = g.H.Shelf.faults c.args.shelf.now; sink_faults = g.O.Sink.faults c.args.out.now }) c.in-Ok.bytes.items c.deref.result.now c.in-Ok-translate.made.file c.deref.ensures.value c.in-Ok.ensures.bytes
+      c.in-Ok-translate.ensures.carries (
+        put_image _ _ _ c.args.to.now c.as_slice.result.now c.in-Ok-translate.made.file c.in-Ok.ensures.same c.as_slice.ensures c.in-Ok-put.ensures.ok,
+        c.in-Ok-translate.made.summary,
+        c.in-Ok-translate.ensures.summary,
+        took_part _ _ c.as_bytes.result.now _ (c.as_bytes.ensures.value ∙ c.in-Ok-line_of.ensures) (c.in-Err-Failed-write_all.ensures.failed (cc)),
+      ),
+)
+
+pub returns : goal.returns
+returns g c = (
+  c.in-Err-NoMemory-write_all.ensures.no_memory (cc),
+  inr (of_image c.args.from.now (record { files = g.H.Shelf.files c.args.shelf.now; taken = g.O.Sink.taken c.args.out.now; shelf_faults = g.H.Shelf.faults c.args.shelf.now; sink_faults = g.O.Sink.faults c.args.out.now }) c.in-Ok.bytes.items c.deref.result.now c.in-Ok-translate.made.file c.deref.ensures.value c.in-Ok.ensures.bytes
+      c.in-Ok-translate.ensures.carries
+      (put_image _ _ _ c.args.to.now c.as_slice.result.now c.in-Ok-translate.made.file c.in-Ok.ensures.same c.as_slice.ensures c.in-Ok-put.ensures.ok)),
+)

@@ -1,0 +1,79 @@
+-- How a call ends: for each status when it comes, and what it leaves.
+use Rattle.std.specs.Prelude.{◌≡◌, ◌⊎◌, ◌<◌, ℕ, List, [], ◌∷◌, codes, length, Option, Some, None, IfSome}
+use Rattle.lasagne.specs.declared.command.Status.{Status}
+use Rattle.lasagne.specs.declared.command.Status.TheVariants.{Done, Refused, Usage, ReadFailed, WriteFailed, NoMemory, NotExplained, OutFailed}
+use Rattle.lasagne.specs.declared.plan.Summary.{Summary}
+use Rattle.lasagne.specs.Ports.{Files, Rose, IsPut, IsTorn, Told, Took, TookPart}
+use Rattle.lasagne.specs.Accepted.{HasNoFault}
+use Rattle.lasagne.specs.Carries.{CarriesInArm}
+use Rattle.lasagne.specs.Counting.{nothing}
+use Rattle.lasagne.specs.Lines.{HasSummary}
+use Rattle.lasagne.specs.Texts.{usage_line, unbuilt_line, translated_line}
+
+-- What is told of the outside at a moment: the files, what the sink has taken, and the two counts of faults.
+pub record World : Type 0 where
+  pub files : Option Files
+  pub taken : Option (List ℕ)
+  pub shelf_faults : ℕ
+  pub sink_faults : ℕ
+
+-- the words are `translate IN OUT`, and this holds of IN and OUT
+abbrev pub OfTranslate : List (List ℕ) → (List ℕ → List ℕ → Type 0) → Type 0
+OfTranslate words P = (from : List ℕ) × (to : List ℕ) × (words ≡ codes "translate" ∷ from ∷ to ∷ []) × P from to
+
+-- the words are those of no command
+abbrev pub HasNoShape : List (List ℕ) → Type 0
+HasNoShape words = (from to : List ℕ) → words ≡ codes "translate" ∷ from ∷ to ∷ [] → ⊥
+
+-- no file is touched; nothing is written
+abbrev pub SameFiles : World → World → Type 0
+SameFiles old new = new.files ≡ old.files
+
+abbrev pub SameTaken : World → World → Type 0
+SameTaken old new = new.taken ≡ old.taken
+
+-- the sink took the line, or a prefix of it where its count rose
+abbrev pub Says : List ℕ → World → World → Type 0
+Says text old new = Told old.taken new.taken (Took text) ⊎ (Rose old.sink_faults new.sink_faults × Told old.taken new.taken (TookPart text))
+
+-- an image that carries the bytes under a name, and of both this holds
+abbrev pub OfImage : List ℕ → World → (List ℕ → List ℕ → Type 0) → Type 0
+OfImage from old P = (input : List ℕ) × (image : List ℕ) × CarriesInArm input image × IfSome old.files (λ files. files from ≡ Some input) × P input image
+
+-- OUT has an image that carries the bytes that were under IN, and all other names are as before
+abbrev pub HasImage : List ℕ → List ℕ → World → World → Type 0
+HasImage from to old new = OfImage from old (λ input image. Told old.files new.files (IsPut to image))
+
+-- the same, with something of the summary of the bytes that were under IN
+abbrev pub HasImageAnd : List ℕ → List ℕ → World → World → (Summary → Type 0) → Type 0
+HasImageAnd from to old new P =
+    OfImage from old (λ input image. Told old.files new.files (IsPut to image) × (summary : Summary) × HasSummary nothing input summary × P summary)
+
+-- the bytes under IN, where they are told, are none that are translated
+abbrev pub HasFault : List ℕ → World → Type 0
+HasFault from old = IfSome old.files (λ files. (bytes : List ℕ) × (files from ≡ Some bytes) × (HasNoFault bytes → ⊥))
+
+-- The table of ends of `translate IN OUT`. Each status has its cause; want of memory alone is free.
+abbrev pub Ends : Status → List ℕ → List ℕ → World → World → Type 0
+Ends Done from to old new = HasImageAnd from to old new (λ summary. Told old.taken new.taken (Took (translated_line summary)))
+Ends Refused from to old new = HasFault from old × SameFiles old new × Says unbuilt_line old new
+Ends ReadFailed from to old new = Rose old.shelf_faults new.shelf_faults × SameFiles old new × SameTaken old new
+Ends WriteFailed from to old new =
+    Rose old.shelf_faults new.shelf_faults × OfImage from old (λ input image. Told old.files new.files (IsTorn to image)) × SameTaken old new
+Ends OutFailed from to old new =
+    Rose old.sink_faults new.sink_faults × HasImageAnd from to old new (λ summary. Told old.taken new.taken (TookPart (translated_line summary)))
+Ends NoMemory from to old new = SameTaken old new × (SameFiles old new ⊎ HasImage from to old new)
+Ends Usage from to old new = ⊥
+Ends NotExplained from to old new = ⊥
+
+-- The table of answers: usage is told exactly of words that are no command, and all other ends are those of a command.
+abbrev pub Answers : Status → List (List ℕ) → World → World → Type 0
+Answers Usage words old new = HasNoShape words × SameFiles old new × Says usage_line old new
+Answers NoMemory words old new = SameTaken old new × (SameFiles old new ⊎ OfTranslate words (λ from to. HasImage from to old new))
+Answers status words old new = OfTranslate words (λ from to. Ends status from to old new)
+
+-- A line was written to tell of a status, which stands but for want of memory.
+abbrev pub IsSaid : List ℕ → Status → Option (List ℕ) → ℕ → Option (List ℕ) → ℕ → Status → Type 0
+IsSaid text status old before new now result =
+    ((result ≡ status) × (Told old new (Took text) ⊎ (Rose before now × Told old new (TookPart text))))
+    ⊎ ((result ≡ NoMemory) × (new ≡ old))
