@@ -1,6 +1,6 @@
 -- How the parts of a command's end come together.
-use Rattle.std.proofs.Common.{◌≡◌, ℕ, ◌+◌, ◌-◌, ◌*◌, ◌^◌, ◌<◌, ◌≤◌, List, [], ◌∷◌, ◌++◌, length, arith, sym, ◌∙◌, ap, refl, subst, inl, inr}
-use Rattle.std.specs.Prelude.{◌⊎◌, min, Option, Some, None, IfSome, take}
+use Rattle.std.proofs.Common.{◌≡◌, ℕ, ◌+◌, ◌-◌, ◌*◌, ◌^◌, ◌<◌, ◌≤◌, List, [], ◌∷◌, ◌++◌, length, arith, sym, ◌∙◌, ap, refl, subst, inl, inr, get_or}
+use Rattle.std.specs.Prelude.{◌⊎◌, min, Option, Some, None, IfSome, take, codes}
 use Rattle.lasagne.specs.declared.command.Status.{Status}
 use Rattle.lasagne.specs.declared.command.Status.TheVariants as status
 use Rattle.lasagne.specs.declared.plan.Summary.{Summary}
@@ -61,3 +61,25 @@ took_line old new text written same told = subst (λ (t : List ℕ). Told old ne
 
 pub took_part : (old new : Option (List ℕ)) (text written : List ℕ) → text ≡ written → Told old new (TookPart text) → Told old new (TookPart written)
 took_part old new text written same told = subst (λ (t : List ℕ). Told old new (TookPart t)) same told
+
+-- the end of a command is an answer to its words
+pub answered : (result : Status) (words : List (List ℕ)) (from to : List ℕ) (old new : World) → words ≡ codes "translate" ∷ from ∷ to ∷ []
+    → Ends result from to old new → Answers result words old new
+answered status.Done words from to old new shape ends = (from, to, shape, ends)
+answered status.Refused words from to old new shape ends = (from, to, shape, ends)
+answered status.ReadFailed words from to old new shape ends = (from, to, shape, ends)
+answered status.WriteFailed words from to old new shape ends = (from, to, shape, ends)
+answered status.OutFailed words from to old new shape ends = (from, to, shape, ends)
+answered status.NotExplained words from to old new shape ends = (from, to, shape, ends)
+answered status.Usage words from to old new shape ends = absurd ends
+answered status.NoMemory words from to old new shape (same, inl files) = (same, inl files)
+answered status.NoMemory words from to old new shape (same, inr image) = (same, inr (from, to, shape, image))
+
+-- a list of three
+pub three : (xs : List (List ℕ)) (a b c : List ℕ) → 3 ≤ length xs → length xs < 4
+    → a ≡ get_or xs 0 a → b ≡ get_or xs 1 b → c ≡ get_or xs 2 c → xs ≡ a ∷ b ∷ c ∷ []
+three [] a b c low high p q r = absurd (omega arith)
+three (x ∷ []) a b c low high p q r = absurd (omega arith)
+three (x ∷ y ∷ []) a b c low high p q r = absurd (omega arith)
+three (x ∷ y ∷ z ∷ []) a b c low high p q r = cc
+three (x ∷ y ∷ z ∷ w ∷ ws) a b c low high p q r = absurd (omega arith)

@@ -1,4 +1,4 @@
-ghost use Rattle.std.specs.Prelude.{◌≡◌, ◌↔◌, ℕ, [], ◌∷◌, ◌++◌, codes, decimal, map, IsTrue, IfOk, OnOk, string_bytes};
+ghost use Rattle.std.specs.Prelude.{◌≡◌, ◌≢◌, ℕ, [], ◌∷◌, ◌++◌, codes, decimal, map, MatchBool, IfOk, OnOk, string_bytes};
 ghost use Rattle.lasagne.specs.Command.{World, Answers, Ends, IsSaid};
 ghost use Rattle.lasagne.specs.Texts.{counts_text, translated_line, usage_line, unbuilt_line};
 
@@ -29,7 +29,7 @@ const USAGE: &[u8] = b"usage: lasagne translate IN OUT, match IN OUT EXEC, plan 
 const UNBUILT: &[u8] = b"refused Unbuilt\n";
 
 fn is_translate(word: &Word) -> bool
-    ensures { IsTrue result ↔ (word.now ≡ codes "translate") }
+    ensures { MatchBool result (word.now ≡ codes "translate") (word.now ≢ codes "translate") }
 {
     word.as_str() == "translate"
 }
