@@ -10,6 +10,8 @@ mod image;
 mod plan;
 pub mod ports;
 mod symbols;
+#[cfg(test)]
+mod tests;
 mod translation;
 mod word;
 

@@ -11,6 +11,7 @@ use std::rt::Files;
 const PIECE: usize = 65_536;
 
 /// The files of the system. It tells nothing of their contents, and counts each refusal.
+#[derive(Drop)]
 pub struct DiskShelf<'a, R: Files> {
     rt: &'a R,
     faults: u64,

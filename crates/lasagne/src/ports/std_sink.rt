@@ -2,6 +2,7 @@ use super::{Sink, SinkFault};
 use std::io::{self, Write};
 
 /// Standard output. It tells nothing of what it has taken, and counts each refusal.
+#[derive(Drop)]
 pub struct StdSink<'a, P: Print> {
     rt: &'a P,
     faults: u64,
