@@ -7,3 +7,4 @@ pub mod Cycle
 pub mod WellFormed
 pub mod Faults
 pub mod FinalByte
+pub mod FinderMark

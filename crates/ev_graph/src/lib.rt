@@ -5,9 +5,13 @@
 
 mod events;
 mod execution;
+mod finder;
+mod last_byte;
 mod list;
 mod no_memory;
+mod ranges;
 mod rows;
+mod start;
 mod start_memory;
 
 pub use events::{
@@ -16,7 +20,9 @@ pub use events::{
 pub use execution::{
     EventPair, Execution, FormFault, ReadByte, ReadFrom, Source, Stack, ThreadRun,
 };
+pub use last_byte::final_byte;
 pub use list::List;
 pub use no_memory::NoMemory;
+pub use ranges::overlaps;
 pub use rows::{RowItems, Wanted};
 pub use start_memory::StartMemory;
