@@ -1,5 +1,12 @@
 pub mod Bytes
+pub mod CallerLemmas
+pub mod Faultless
 pub mod FinalByteLemmas
+pub mod FirstLemmas
+pub mod FormLemmas
+pub mod GivingLemmas
+pub mod Ids
+pub mod Members
 pub mod Numbers
 pub mod PlaceLemmas
 pub mod Threads

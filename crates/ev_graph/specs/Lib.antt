@@ -8,3 +8,4 @@ pub mod WellFormed
 pub mod Faults
 pub mod FinalByte
 pub mod FinderMark
+pub mod Giving

@@ -7,19 +7,9 @@ ghost use Rattle.ev_graph.specs.FinalByte.{GivesByte, IsLastBefore, IsFinalByte}
 ghost use Rattle.ev_graph.specs.FinderMark.{IsMark};
 
 use crate::finder::Finder;
-use crate::ranges::byte_written;
+use crate::giving::byte_given;
 use crate::start::first_byte;
 use crate::{EventId, Execution, StartMemory, ThreadRun};
-
-/// The byte that an entry of co gives the address, where it covers it.
-fn byte_given(threads: &[ThreadRun], id: EventId, address: u64, finder: &mut Finder) -> Option<u8>
-    requires { IsMark threads.now finder.old.thread finder.old.place finder.old.number }
-    ensures mark { IsMark threads.now finder.new.thread finder.new.place finder.new.number }
-    ensures some { IfSome result (λ byte. GivesByte threads.now id address byte) }
-    ensures none { IfNone result ((byte : ℕ) → GivesByte threads.now id address byte → ⊥) }
-{
-    byte_written(&finder.find(threads, id)?, address)
-}
 
 /// The byte that the last entry of co to cover the address gives.
 fn last_byte(threads: &[ThreadRun], co: &[EventId], address: u64) -> Option<u8>

@@ -6,6 +6,8 @@
 mod events;
 mod execution;
 mod finder;
+mod form;
+mod giving;
 mod last_byte;
 mod list;
 mod no_memory;
@@ -20,6 +22,7 @@ pub use events::{
 pub use execution::{
     EventPair, Execution, FormFault, ReadByte, ReadFrom, Source, Stack, ThreadRun,
 };
+pub use form::well_formed;
 pub use last_byte::final_byte;
 pub use list::List;
 pub use no_memory::NoMemory;
