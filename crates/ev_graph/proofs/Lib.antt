@@ -1,5 +1,6 @@
 pub mod Bytes
 pub mod CallerLemmas
+pub mod EventLemmas
 pub mod Faultless
 pub mod FinalByteLemmas
 pub mod FirstLemmas
@@ -9,4 +10,5 @@ pub mod Ids
 pub mod Members
 pub mod Numbers
 pub mod PlaceLemmas
+pub mod StoreBufferingLemmas
 pub mod Threads

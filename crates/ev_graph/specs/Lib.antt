@@ -9,3 +9,4 @@ pub mod Faults
 pub mod FinalByte
 pub mod FinderMark
 pub mod Giving
+pub mod StoreBuffering

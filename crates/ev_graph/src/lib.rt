@@ -29,3 +29,6 @@ pub use no_memory::NoMemory;
 pub use ranges::overlaps;
 pub use rows::{RowItems, Wanted};
 pub use start_memory::StartMemory;
+
+#[cfg(test)]
+mod tests;
