@@ -1,5 +1,5 @@
 -- Store buffering: its accesses, its fences, its sources, and that it is what its threads' items say.
-use Rattle.std.proofs.Common.{◌≡◌, ◌≤◌, ◌<◌, ◌+◌, ◌-◌, ℕ, zero, suc, Bool, true, false, List, [], ◌∷◌, map, length, ◌⊎◌, inl, inr, ◌↔◌, IsSomeAnd, Option, Some, None, refl, sym, ◌∙◌, subst, ap, arith}
+use Rattle.std.proofs.Common.{◌≡◌, ◌<◌, ◌-◌, ℕ, zero, suc, Bool, false, List, [], ◌∷◌, map, length, ◌⊎◌, inl, inr, IsSomeAnd, Option, Some, None, refl, sym, ◌∙◌, subst, ap, arith}
 use Rattle.std.specs.List.{slice_get}
 use Rattle.ev_graph.specs.declared.events.Access.{Access}
 use Rattle.std.specs.Option.{option_map}
@@ -9,7 +9,6 @@ use Rattle.ev_graph.specs.declared.events.EventId.{EventId}
 use Rattle.ev_graph.specs.declared.events.FenceItem.{FenceItem}
 use Rattle.ev_graph.specs.declared.events.FenceKind.{FenceKind}
 use Rattle.ev_graph.specs.declared.events.Item.TheVariants as item
-use Rattle.ev_graph.specs.declared.execution.EventPair.{EventPair}
 use Rattle.ev_graph.specs.declared.execution.ReadFrom.{ReadFrom}
 use Rattle.ev_graph.specs.declared.execution.Source.TheVariants.{Start, From}
 use Rattle.ev_graph.specs.Places.{StandsIn}
@@ -17,7 +16,7 @@ use Rattle.ev_graph.specs.Events.{Event, event, events, accesses, items_of, IsIn
 use Rattle.ev_graph.specs.Pairs.{SourceOf}
 use Rattle.ev_graph.specs.WellFormed.{IsIndexed, HasEntries, HasLockedPairs, IsShaped, EachAccess, IsAddressable, read_ids}
 use Rattle.ev_graph.proofs.EventLemmas.{access_of}
-use Rattle.ev_graph.specs.StoreBuffering.{sb_write, sb_read, sb_items, sb_thread, sb_entry, store_buffering, IsSbWrite, IsSbRead}
+use Rattle.ev_graph.specs.StoreBuffering.{sb_write, sb_read, sb_items, sb_entry, store_buffering, IsSbWrite, IsSbRead}
 
 -- a thread's accesses are its write and its read
 sb_accesses : (t value : ℕ) (fence : Option FenceKind) → accesses (sb_items t value fence) ≡ sb_write t ∷ sb_read t value ∷ []

@@ -11,7 +11,7 @@ use crate::start::first_byte;
 use crate::{Access, EventId, Execution, FormFault, ReadByte, Source, StartMemory, ThreadRun};
 
 /// What a source gives a byte of a read.
-#[derive(Clone, Copy, PartialEq, Eq)]
+#[derive(Clone, Copy)]
 pub enum Giving {
     SameByte,
     OtherByte,

@@ -1,5 +1,5 @@
-//! Executions of threads: their events, and the memory that they begin with.
-//! Others rest on the types, on `List`, which contracts see as a list, and on the members of `StartMemory`.
+//! Executions of threads: their events and relations, what makes them well formed, and the memory that they begin with.
+//! Others rest on the types, on `List`, which contracts see as a list, on `well_formed`, and on the members of `StartMemory`.
 //! Source: the axiomatic style of memory models (Alglave, Maranget, Tautschnig, TOPLAS 2014), with System V gABI chapter 5 for memory.
 #![tactic(auto)]
 
