@@ -1,2 +1,14 @@
+pub mod Bytes
+pub mod CallerLemmas
+pub mod EventLemmas
+pub mod Faultless
+pub mod FinalByteLemmas
+pub mod FirstLemmas
+pub mod FormLemmas
+pub mod GivingLemmas
+pub mod Ids
+pub mod Members
 pub mod Numbers
 pub mod PlaceLemmas
+pub mod StoreBufferingLemmas
+pub mod Threads

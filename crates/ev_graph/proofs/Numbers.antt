@@ -1,6 +1,8 @@
 -- Places among items, and the numbers of accesses: how many accesses stand before a place.
-use Rattle.std.proofs.Common.{◌≡◌, ◌≤◌, ◌<◌, ◌+◌, ℕ, zero, suc, List, [], ◌∷◌, Some, ◌⊎◌, inl, inr, refl, ap, arith}
+use Rattle.std.proofs.Common.{◌≡◌, ◌≤◌, ◌<◌, ◌+◌, ℕ, zero, suc, List, [], ◌∷◌, length, None, Some, ◌⊎◌, inl, inr, refl, sym, ◌∙◌, ap, arith}
 use Rattle.std.specs.List.{slice_get}
+use Rattle.std.proofs.lemmas.List.{take_all}
+use Rattle.std.proofs.lemmas.Option.{slice_get_past}
 use Rattle.ev_graph.specs.declared.events.Access.{Access}
 use Rattle.ev_graph.specs.declared.events.FenceItem.{FenceItem}
 use Rattle.ev_graph.specs.declared.events.FenceKind.{FenceKind}
@@ -73,13 +75,15 @@ fence_no_access items k f a fence access = cc
 -- a fence between two accesses, by their numbers, has its place between theirs
 pub fence_from : (kind : FenceKind) (items : List Item) (i j : ℕ) (a b : Access) → slice_get items i ≡ Some (item.Access a) → slice_get items j ≡ Some (item.Access b)
     → (between : FenceBetween kind items (accesses_before items i) (accesses_before items j)) → (i < between.place) × (between.place < j)
-fence_from kind items i j a b at_i at_j between =
-    (place_order items i between.place between.behind,
-     (let cases : (between.place < j) ⊎ ((between.place ≡ j) ⊎ (suc j ≤ between.place)) = grind arith in
+fence_from kind items i j a b at_i at_j between = (
+  place_order items i between.place between.behind,
+  (let cases : (between.place < j) ⊎ ((between.place ≡ j) ⊎ (suc j ≤ between.place)) = grind arith in
       elim cases [
-        inl less ↦ less |
-        inr (inl same) ↦ absurd (fence_no_access items j between.fence b (rw (← same) between.here) at_j) |
-        inr (inr beyond) ↦ absurd (let more_before = mono items (suc j) between.place beyond in let one_more = more items j b at_j in let ahead = between.ahead in omega arith) ]))
+        | inl less ↦ less
+        | inr (inl same) ↦ absurd (fence_no_access items j between.fence b (rw (← same) between.here) at_j)
+        | inr (inr beyond) ↦ absurd (let more_before = mono items (suc j) between.place beyond in let one_more = more items j b at_j in let ahead = between.ahead in omega arith)
+      ]),
+)
 
 -- a fence with its place between those of two accesses stands between them, by their numbers
 pub fence_to : (kind : FenceKind) (items : List Item) (i j k : ℕ) (a : Access) (f : FenceItem) → slice_get items i ≡ Some (item.Access a)
@@ -91,7 +95,7 @@ fence_to kind items i j k a f at_i after before at_k same = record {
   here = at_k;
   same = same;
   behind = let one_more = more items i a at_i in let rest = mono items (suc i) k (omega arith) in omega arith;
-  ahead = mono items k j (omega arith)
+  ahead = mono items k j (omega arith);
 }
 
 -- the next access: none has its place between
@@ -112,3 +116,37 @@ next_to items i j a at_i after none =
     let first = more items i a at_i in
     let rest = steady items (suc i) j (omega arith) (λ k c from to here. none k c (omega arith) to here) in
     omega arith
+
+-- one more access stands before the place behind an access
+pub more_plus : (items : List Item) (i : ℕ) (a : Access) → slice_get items i ≡ Some (item.Access a)
+    → accesses_before items (i + 1) ≡ accesses_before items i + 1
+more_plus items i a here =
+    let next : i + 1 ≡ suc i = omega arith in
+    let one = more items i a here in
+    rw next (omega arith)
+
+-- as many accesses stand before the place behind what is no access
+pub same_before : (items : List Item) (i : ℕ) → ((a : Access) → slice_get items i ≡ Some (item.Access a) → ⊥)
+    → accesses_before items (i + 1) ≡ accesses_before items i
+same_before items i none =
+    let next : i + 1 ≡ suc i = omega arith in
+    rw next (sym (steady items i (suc i) (omega arith) (λ k a from to here. let same : k ≡ i = omega arith in none a (rw (← same) here))))
+
+-- all accesses stand before a place past the end
+pub before_past : (items : List Item) (i : ℕ) → length items ≤ i → accesses_before items i ≡ length (accesses items)
+before_past items i past = rw (take_all i items past) refl
+
+-- the access at a place, by its number
+pub found_at : (items : List Item) (place number index : ℕ) (a : Access) → slice_get items place ≡ Some (item.Access a)
+    → accesses_before items place ≡ number → number ≡ index → Some a ≡ slice_get (accesses items) index
+found_at items place number' index a here counted same =
+    let at = number items place a here in
+    let e : accesses_before items place ≡ index = counted ∙ same in
+    sym (rw e at at)
+
+-- no access has a number that stands before a place past the end
+pub none_past : (items : List Item) (place number index : ℕ) → length items ≤ place → accesses_before items place ≡ number → number ≤ index
+    → None ≡ slice_get (accesses items) index
+none_past items place number' index past counted ahead =
+    let all = before_past items place past in
+    sym (slice_get_past (accesses items) index (omega arith))

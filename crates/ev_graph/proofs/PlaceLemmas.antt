@@ -1,5 +1,5 @@
 -- What stands at a place of a list, and of its parts.
-use Rattle.std.proofs.Common.{◌≡◌, ◌≤◌, ◌<◌, ◌+◌, ◌-◌, ℕ, zero, suc, List, [], ◌∷◌, ◌⊎◌, inl, inr, Option, Some, None, take, drop, refl, ap, arith}
+use Rattle.std.proofs.Common.{◌≡◌, ◌≤◌, ◌<◌, ◌+◌, ◌-◌, ℕ, zero, suc, List, [], ◌∷◌, ◌⊎◌, inl, inr, Some, None, take, drop, refl, ap, arith}
 use Rattle.std.specs.List.{slice_get, slice_range}
 
 pub get-drop : {A : Type 0} (xs : List A) (i k : ℕ) → slice_get (drop i xs) k ≡ slice_get xs (i + k)
@@ -25,8 +25,9 @@ pub range_from : {A : Type 0} (xs : List A) (i j k : ℕ) (x : A) → slice_get 
 range_from {A} xs i j k x here =
     let cases : (k < j - i) ⊎ (j - i ≤ k) = grind arith in
     elim cases [
-      inl in_part ↦ (omega arith, (let found = get-take (drop i xs) (j - i) k in_part in let moved = get-drop xs i k in cc)) |
-      inr past ↦ absurd (let none = get-take_past (drop i xs) (j - i) k past in cc) ]
+      | inl in_part ↦ (omega arith, (let found = get-take (drop i xs) (j - i) k in_part in let moved = get-drop xs i k in cc))
+      | inr past ↦ absurd (let none = get-take_past (drop i xs) (j - i) k past in cc)
+    ]
 
 -- what stands in the list, within the part, stands in the part
 pub range_to : {A : Type 0} (xs : List A) (i j k : ℕ) (x : A) → i ≤ k → k < j → slice_get xs k ≡ Some x → slice_get (slice_range xs i j) (k - i) ≡ Some x

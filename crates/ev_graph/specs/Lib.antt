@@ -7,3 +7,6 @@ pub mod Cycle
 pub mod WellFormed
 pub mod Faults
 pub mod FinalByte
+pub mod FinderMark
+pub mod Giving
+pub mod StoreBuffering

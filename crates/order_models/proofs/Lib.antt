@@ -1,2 +1,4 @@
+pub mod Acyclic
 pub mod CallerLemmas
 pub mod LocalLemmas
+pub mod StoreBufferingVerdicts

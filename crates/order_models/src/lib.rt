@@ -5,6 +5,7 @@
 
 mod arm;
 mod edge;
+mod examples;
 mod limm;
 mod model;
 mod pair;
@@ -12,6 +13,13 @@ mod tso;
 
 pub use arm::Arm;
 pub use edge::EdgeKind;
+pub use examples::{
+    arm_forbids_store_buffering_with_fences, tso_allows_store_buffering,
+    tso_forbids_store_buffering_with_fences,
+};
 pub use limm::Limm;
 pub use model::OrderModel;
 pub use tso::Tso;
+
+#[cfg(test)]
+mod tests;
