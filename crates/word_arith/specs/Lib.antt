@@ -1,0 +1,5 @@
+pub mod Bits
+pub mod Masks
+pub mod Signed
+pub mod Turns
+pub mod Width
