@@ -1,6 +1,6 @@
 -- What an instruction does to each of the four flags: one table, which serves the values here (an undefined flag
 -- is 0) and whoever asks which flags are undefined. Intel SDM volume 2, "Flags Affected" of each instruction.
-use Rattle.std.specs.Prelude.{ℕ, Bool, true, false, ◌==◌, ◌||◌, nat_lt, if◌then◌else◌}
+use Rattle.std.specs.Prelude.{ℕ, Bool, true, false, ◌==◌, ◌||◌, nat_lt, nat_le, if◌then◌else◌}
 use Rattle.alu_width.specs.declared.flags.Flags.{Flags}
 use Rattle.alu_width.specs.declared.operations.Shift.{Shift}
 use Rattle.alu_width.specs.declared.operations.Shift.TheVariants.{Shl, Shr, Sar}
@@ -67,7 +67,7 @@ turn_effects n =
 -- SHL, SHR, SAR of W bits by CL, for whoever does not know what CL holds
 abbrev pub shift_by_cl_effects : Shift → (W : ℕ) → Effects
 shift_by_cl_effects op W =
-    if is_sar op || nat_lt 31 W then effects Kept Kept Kept Undefined
+    if is_sar op || nat_le 32 W then effects Kept Kept Kept Undefined
     else effects Undefined Kept Kept Undefined
 
 -- ROL, ROR by CL, for whoever does not know what CL holds

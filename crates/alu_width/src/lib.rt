@@ -6,11 +6,11 @@
 //mod conditions;
 mod flags;
 mod operations;
-//mod products;
+mod products;
 //mod quotients;
-//mod shifts;
-//mod sums;
-//mod turns;
+mod shifts;
+mod sums;
+mod turns;
 mod words;
 
 //pub use conditions::cond;

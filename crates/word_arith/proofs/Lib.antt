@@ -1,1 +1,5 @@
 pub mod CarryLemmas
+pub mod LowBitsLemmas
+pub mod ShiftLemmas
+pub mod SignedLemmas
+pub mod TurnLemmas

@@ -1,0 +1,22 @@
+-- The 128 bits in which the operations compute.
+use Rattle.std.proofs.Common.{◌≡◌, ℕ, ◌+◌, ◌-◌, ◌*◌, ◌%◌, ◌^◌, ◌<◌, ◌≤◌, arith, refl, ap, sym, ◌∙◌, subst}
+use Rattle.std.specs.Prelude.{ℤ, pos, negsuc, ◌+ℤ◌, bit_and, suc, FitsSigned}
+use Rattle.std.specs.Int.{w128, cast_unsigned}
+use Rattle.std.proofs.lemmas.Int.{ints}
+use Rattle.std.proofs.lemmas.Nat.{and_mask}
+use Rattle.word_arith.specs.Signed.{low_bits}
+use Rattle.word_arith.proofs.LowBitsLemmas.{low_bits_is, low_bits_pos}
+use Rattle.word_arith.proofs.ShiftLemmas.{pow_split}
+
+-- the low bits of a number of 128 bits are those of its 128 bits
+pub low_bits_of_128 : (V : ℕ) (z : ℤ) → V ≤ 128 → FitsSigned w128 z → cast_unsigned w128 z % 2 ^ V ≡ low_bits V z
+low_bits_of_128 V (pos n) h fits = sym (low_bits_pos V n)
+low_bits_of_128 V (negsuc n) h fits =
+    let small : n < 2 ^ 127 = fits.sfits in
+    sym (low_bits_is V (negsuc n) (2 ^ (128 - V)) (2 ^ 128 - suc n) (omega (arith, ints, pow_split 128 V h)))
+
+-- the same by a mask of V ones
+pub low_bits_by_mask : (V : ℕ) (z : ℤ) (x m : ℕ) → V ≤ 128 → FitsSigned w128 z → x ≡ cast_unsigned w128 z → m + 1 ≡ 2 ^ V → bit_and x m ≡ low_bits V z
+low_bits_by_mask V z x m h fits is_x is_m =
+    let e : m ≡ 2 ^ V - 1 = omega arith in
+    ap (λ v. bit_and x v) e ∙ and_mask x V ∙ ap (λ v. v % 2 ^ V) is_x ∙ low_bits_of_128 V z h fits

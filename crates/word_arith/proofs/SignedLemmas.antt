@@ -1,0 +1,12 @@
+-- What words mean in two's complement.
+use Rattle.std.proofs.Common.{◌≡◌, ℕ, ◌+◌, ◌-◌, ◌*◌, ◌^◌, ◌<◌, ◌≤◌, arith, refl, ap, sym, ◌∙◌, true}
+use Rattle.std.specs.Prelude.{ℤ, pos, ◌-ℤ◌, nat_le}
+use Rattle.std.proofs.lemmas.Int.{ints}
+use Rattle.std.proofs.lemmas.Bool.Decides.{nat_tests}
+use Rattle.word_arith.specs.Width.{IsWidth}
+use Rattle.word_arith.specs.Signed.{signed, fits_signed, low_bits}
+
+-- the word of a number that fits means that number
+pub signed_low_bits : (W : ℕ) (z : ℤ) → IsWidth W → fits_signed W z ≡ true → signed W (low_bits W z) ≡ z
+unfolding signed fits_signed low_bits
+signed_low_bits W z w fits = grind (arith, nat_tests, ints)
