@@ -1,1 +1,2 @@
+pub mod QuotientLemmas
 pub mod WordLemmas

@@ -3,17 +3,17 @@
 //! Source: Intel SDM volume 1, 3.4.3 (EFLAGS), and volume 2, the pages of the instructions and appendix B (condition codes).
 #![tactic(auto)]
 
-//mod conditions;
+mod conditions;
 mod flags;
 mod operations;
 mod products;
-//mod quotients;
+mod quotients;
 mod shifts;
 mod sums;
 mod turns;
 mod words;
 
-//pub use conditions::cond;
+pub use conditions::cond;
 pub use flags::{Flags, Outcome};
 pub use operations::{DivFault, Logic, Product, Quotient, Rotate, Shift};
 pub use words::Alu;

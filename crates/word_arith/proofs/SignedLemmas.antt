@@ -1,5 +1,5 @@
 -- What words mean in two's complement.
-use Rattle.std.proofs.Common.{◌≡◌, ℕ, ◌+◌, ◌-◌, ◌*◌, ◌^◌, ◌<◌, ◌≤◌, arith, refl, ap, sym, ◌∙◌, true}
+use Rattle.std.proofs.Common.{◌≡◌, ℕ, ◌+◌, ◌-◌, ◌*◌, ◌^◌, ◌<◌, ◌≤◌, ◌≢◌, arith, refl, ap, sym, ◌∙◌, true}
 use Rattle.std.specs.Prelude.{ℤ, pos, ◌-ℤ◌, nat_le}
 use Rattle.std.proofs.lemmas.Int.{ints}
 use Rattle.std.proofs.lemmas.Bool.Decides.{nat_tests}
@@ -10,3 +10,8 @@ use Rattle.word_arith.specs.Signed.{signed, fits_signed, low_bits}
 pub signed_low_bits : (W : ℕ) (z : ℤ) → IsWidth W → fits_signed W z ≡ true → signed W (low_bits W z) ≡ z
 unfolding signed fits_signed low_bits
 signed_low_bits W z w fits = grind (arith, nat_tests, ints)
+
+-- a word that is not 0 does not mean 0
+pub signed_not_zero : (W a : ℕ) → IsWidth W → a < 2 ^ W → a ≢ 0 → signed W a ≢ pos 0
+unfolding signed
+signed_not_zero W a w p h = λ e. grind (arith, nat_tests, ints)
