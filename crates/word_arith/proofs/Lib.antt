@@ -1,5 +1,6 @@
 pub mod CarryLemmas
 pub mod LowBitsLemmas
+pub mod OverflowLemmas
 pub mod ShiftLemmas
 pub mod SignedLemmas
 pub mod TurnLemmas

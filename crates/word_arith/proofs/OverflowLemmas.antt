@@ -1,0 +1,44 @@
+-- Signed overflow at the four widths, by the top bits of words; whether a number fits, and a product is more than its low half.
+use Rattle.std.proofs.Common.{◌≡◌, ℕ, ◌+◌, ◌-◌, ◌*◌, ◌/◌, ◌%◌, ◌^◌, ◌<◌, ◌≤◌, arith}
+use Rattle.std.specs.Prelude.{ℤ, pos, neg_ℤ, ◌+ℤ◌, ◌-ℤ◌, ◌≤ℤ◌, ◌<ℤ◌, not, ◌&&◌, ◌==◌, nat_le, int_lt, int_le}
+use Rattle.std.proofs.lemmas.Int.{ints}
+use Rattle.std.proofs.lemmas.Bool.Decides.{nat_tests}
+use Rattle.word_arith.specs.Width.{IsWidth}
+use Rattle.word_arith.specs.Bits.{bit, differ, top_bit}
+use Rattle.word_arith.specs.Signed.{signed, fits_signed, low_bits, sign_extend}
+
+-- a sum overflows where both operands' top bits differ from the result's
+pub sum_overflow : (W a b c : ℕ) → IsWidth W → a < 2 ^ W → b < 2 ^ W → c < 2 →
+    not (fits_signed W (signed W a +ℤ signed W b +ℤ pos c))
+    ≡ (differ (top_bit W a) (top_bit W ((a + b + c) % 2 ^ W)) && differ (top_bit W b) (top_bit W ((a + b + c) % 2 ^ W)))
+unfolding signed fits_signed top_bit
+sum_overflow W a b c w p q r = grind (arith, nat_tests, ints)
+
+-- a difference overflows where the operands' top bits differ and the first one's differs from the result's
+pub difference_overflow : (W a b c : ℕ) → IsWidth W → a < 2 ^ W → b < 2 ^ W → c < 2 →
+    not (fits_signed W (signed W a -ℤ signed W b -ℤ pos c))
+    ≡ (differ (top_bit W a) (top_bit W b) && differ (top_bit W a) (top_bit W ((a + (2 ^ W - (b + c))) % 2 ^ W)))
+unfolding signed fits_signed top_bit
+difference_overflow W a b c w p q r = grind (arith, nat_tests, ints)
+
+-- after a difference, sign differs from overflow where the first operand is less with sign
+pub less_by_overflow : (W a b : ℕ) → IsWidth W → a < 2 ^ W → b < 2 ^ W →
+    differ (top_bit W ((a + (2 ^ W - b)) % 2 ^ W)) (not (fits_signed W (signed W a -ℤ signed W b))) ≡ int_lt (signed W a) (signed W b)
+unfolding signed fits_signed top_bit
+less_by_overflow W a b w p q = grind (arith, nat_tests, ints)
+
+-- whether a number of 64 bits fits W bits, by the extension of its low bits
+pub range_by_extension : (W : ℕ) (z : ℤ) → IsWidth W → W < 64 → neg_ℤ (pos (2 ^ 63)) ≤ℤ z → z <ℤ pos (2 ^ 63) →
+    fits_signed W z ≡ (low_bits 64 z == sign_extend 64 W (low_bits 64 z % 2 ^ W))
+unfolding signed fits_signed low_bits
+range_by_extension W z w small low high = grind (arith, nat_tests, ints)
+
+-- a double product without sign is its low half where its high half is 0
+pub over_plain : (W p : ℕ) → IsWidth W → (p == p % 2 ^ W) ≡ (p / 2 ^ W == 0)
+over_plain W p w = grind (arith, nat_tests)
+
+-- a double product with sign is the extension of its low half where its high half is all signs
+pub over_signed : (W p : ℕ) → IsWidth W → p < 2 ^ (2 * W) →
+    (p == sign_extend (2 * W) W (p % 2 ^ W)) ≡ (p / 2 ^ W == bit (top_bit W (p % 2 ^ W)) * (2 ^ W - 1))
+unfolding signed low_bits top_bit
+over_signed W p w h = grind (arith, nat_tests, ints)
