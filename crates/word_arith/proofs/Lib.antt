@@ -4,3 +4,4 @@ pub mod OverflowLemmas
 pub mod ShiftLemmas
 pub mod SignedLemmas
 pub mod TurnLemmas
+pub mod BitLemmas
