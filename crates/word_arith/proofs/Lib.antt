@@ -5,3 +5,5 @@ pub mod ShiftLemmas
 pub mod SignedLemmas
 pub mod TurnLemmas
 pub mod BitLemmas
+pub mod ExtendLemmas
+pub mod FieldLemmas

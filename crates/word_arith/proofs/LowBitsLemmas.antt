@@ -6,6 +6,7 @@ use Rattle.std.proofs.lemmas.Int.{ints, int_rem_euclid_is}
 use Rattle.std.proofs.Math.Nat.{add-mul-mod_self_right}
 use borrow.Author.Differences.{up, down, product_is}
 use Rattle.word_arith.specs.Signed.{low_bits}
+use Rattle.word_arith.proofs.ShiftLemmas.{pow_split}
 
 -- the low bits from a multiple of 2 ^ V that makes the number a natural
 pub low_bits_is : (V : ℕ) (z : ℤ) (k m : ℕ) → z +ℤ pos (k * 2 ^ V) ≡ pos m → low_bits V z ≡ m % 2 ^ V
@@ -78,3 +79,13 @@ low_bits-mul V y z =
     let parts = product_is y z in
     low_bits_is V (y *ℤ z) j (L * M + k * P) (omega (arith, ints, whole, parts.0, parts.1))
     ∙ add-mul-mod_self_right (L * M) k P
+
+-- the low bits of the low bits
+pub low_bits-mod : (V W : ℕ) (z : ℤ) → W ≤ V → low_bits V z % 2 ^ W ≡ low_bits W z
+low_bits-mod V W z h =
+    let r = low_bits_read V z in
+    let L : ℕ = low_bits V z in
+    let cut = pow_split V W h in
+    sym (low_bits_is W z (r.0 * 2 ^ (V - W)) (L + r.1 * 2 ^ (V - W) * 2 ^ W)
+            (omega (arith, ints, r.2, ap (λ n. r.0 * n) cut, ap (λ n. r.1 * n) cut))
+        ∙ add-mul-mod_self_right L (r.1 * 2 ^ (V - W)) (2 ^ W))

@@ -1,0 +1,96 @@
+-- Extension by the sign, and division by a power of two that rounds down, at any width.
+use Rattle.std.proofs.Common.{◌≡◌, ℕ, ◌+◌, ◌-◌, ◌*◌, ◌/◌, ◌%◌, ◌^◌, ◌<◌, ◌≤◌, Bool, true, false, arith, refl, ap, sym, ◌∙◌}
+use Rattle.std.specs.Prelude.{ℤ, pos, negsuc, ◌+ℤ◌, ◌-ℤ◌, nat_le, if◌then◌else◌, cond}
+use Rattle.std.specs.Int.{int_div_euclid}
+use Rattle.std.proofs.lemmas.Int.{ints}
+use Rattle.std.proofs.lemmas.Nat.{pow_pos, pow-add, shr_split, shr_high, shr_below, mod_below}
+use Rattle.std.proofs.Math.Nat.{lt_of_mul-lt-mul_right, pow-le-pow_right}
+use Rattle.word_arith.specs.Width.{IsWidth}
+use Rattle.word_arith.specs.Bits.{bit, top_bit}
+use Rattle.word_arith.specs.Signed.{signed, low_bits, sign_extend}
+use Rattle.word_arith.proofs.BitLemmas.{pow_half}
+use Rattle.word_arith.proofs.LowBitsLemmas.{low_bits_is, low_bits_below, low_bits-mod}
+use Rattle.word_arith.proofs.ShiftLemmas.{pow_split, mod_small}
+use Rattle.word_arith.proofs.SignedLemmas.{signed_extend}
+
+-- a choice by a flag as a product with it
+chosen : (b : Bool) (a m : ℕ) → (if b then pos a -ℤ pos m else pos a) ≡ pos a -ℤ pos (bit b * m)
+chosen true a m = omega (arith, ints)
+chosen false a m = omega (arith, ints)
+
+-- what a word means: itself less 2 ^ W times its top bit
+pub signed_is : (W a : ℕ) → signed W a ≡ pos a -ℤ pos (bit (top_bit W a) * 2 ^ W)
+unfolding signed top_bit
+signed_is W a = chosen (nat_le (2 ^ (W - 1)) a) a (2 ^ W)
+
+-- the word of what a word means is that word
+pub low_bits_signed : (W a : ℕ) → a < 2 ^ W → low_bits W (signed W a) ≡ a
+low_bits_signed W a p =
+    low_bits_is W (signed W a) (bit (top_bit W a)) a (omega (arith, ints, signed_is W a)) ∙ mod_small a W p
+
+-- a flag is at most 1
+pub bit_le : (b : Bool) → bit b ≤ 1
+bit_le true = omega arith
+bit_le false = omega arith
+
+-- the product of a flag and a number
+flag_times : (b : Bool) (m : ℕ) → bit b * m ≤ m
+flag_times true m = omega arith
+flag_times false m = omega arith
+
+-- an extension by the sign puts the top bit into all new bits
+pub sign_extend_is : (V W a : ℕ) → W ≤ V → a < 2 ^ W → sign_extend V W a ≡ a + bit (top_bit W a) * (2 ^ V - 2 ^ W)
+sign_extend_is V W a h p =
+    let b : ℕ = bit (top_bit W a) in
+    let wide : 2 ^ W ≤ 2 ^ V = pow-le-pow_right {n = 2} (omega arith) h in
+    let most : b * (2 ^ V - 2 ^ W) ≤ 2 ^ V - 2 ^ W = flag_times (top_bit W a) (2 ^ V - 2 ^ W) in
+    let cut : 2 ^ V ≡ 2 ^ V - 2 ^ W + 2 ^ W = omega arith in
+    let split : b * 2 ^ V ≡ b * (2 ^ V - 2 ^ W) + b * 2 ^ W = omega (arith, ap (λ n. b * n) cut) in
+    low_bits_is V (signed W a) b (a + b * (2 ^ V - 2 ^ W)) (omega (arith, ints, signed_is W a, split))
+    ∙ mod_small (a + b * (2 ^ V - 2 ^ W)) V (omega arith)
+
+-- an extension is a word of the greater width
+pub sign_extend_below : (V W a : ℕ) → sign_extend V W a < 2 ^ V
+sign_extend_below V W a = low_bits_below V (signed W a)
+
+-- division by 2 ^ k that rounds down, from a multiple of 2 ^ k that makes the number a natural
+pub floor_is : (z : ℤ) (k j m : ℕ) → z +ℤ pos (j * 2 ^ k) ≡ pos m → int_div_euclid z (pos (2 ^ k)) ≡ pos (m / 2 ^ k) -ℤ pos j
+floor_is (pos a) k j m e =
+    let parts : m ≡ (a / 2 ^ k + j) * 2 ^ k + a % 2 ^ k = omega (arith, ints, e, shr_split a k) in
+    let q : m / 2 ^ k ≡ a / 2 ^ k + j = ap (λ n. n / 2 ^ k) parts ∙ shr_high (a / 2 ^ k + j) k (a % 2 ^ k) (mod_below a (2 ^ k) (pow_pos k)) in
+    omega (arith, ints, q)
+floor_is (negsuc a) k j m e =
+    let low = mod_below a (2 ^ k) (pow_pos k) in
+    let split = shr_split a k in
+    let sum : m + a + 1 ≡ j * 2 ^ k = omega (arith, ints, e) in
+    let over : a / 2 ^ k * 2 ^ k < j * 2 ^ k = omega arith in
+    let above : a / 2 ^ k < j = lt_of_mul-lt-mul_right (2 ^ k) over in
+    let d : ℕ = j - (a / 2 ^ k + 1) in
+    let whole : j * 2 ^ k ≡ (a / 2 ^ k + 1 + d) * 2 ^ k = ap (λ n. n * 2 ^ k) (omega arith) in
+    let parts : m ≡ d * 2 ^ k + (2 ^ k - 1 - a % 2 ^ k) = omega arith in
+    let q : m / 2 ^ k ≡ d = ap (λ n. n / 2 ^ k) parts ∙ shr_high d k (2 ^ k - 1 - a % 2 ^ k) (omega arith) in
+    omega (arith, ints, q)
+
+-- a shift to the right by the sign, as a shift of a longer extension: `(sign_extend a) >> k` cut to W bits
+pub sar_is : (W a k : ℕ) → a < 2 ^ W → low_bits W (int_div_euclid (signed W a) (pos (2 ^ k))) ≡ sign_extend (W + k) W a / 2 ^ k
+sar_is W a k p =
+    let b : ℕ = bit (top_bit W a) in
+    let long = sign_extend_is (W + k) W a (omega arith) p in
+    let E : ℕ = sign_extend (W + k) W a in
+    let wide : 2 ^ (W + k) ≡ 2 ^ W * 2 ^ k = pow-add 2 W k in
+    let times : b * 2 ^ W * 2 ^ k ≡ b * 2 ^ (W + k) = omega (arith, ap (λ n. b * n) wide) in
+    let more : 2 ^ W ≤ 2 ^ (W + k) = pow-le-pow_right {n = 2} (omega arith) (omega arith) in
+    let cut : 2 ^ (W + k) ≡ 2 ^ (W + k) - 2 ^ W + 2 ^ W = omega arith in
+    let split : b * 2 ^ (W + k) ≡ b * (2 ^ (W + k) - 2 ^ W) + b * 2 ^ W = omega (arith, ap (λ n. b * n) cut) in
+    let down = floor_is (signed W a) k (b * 2 ^ W) E (omega (arith, ints, signed_is W a, long, times, split)) in
+    let small : E / 2 ^ k < 2 ^ W = shr_below E W k (sign_extend_below (W + k) W a) in
+    ap (λ z. low_bits W z) down
+    ∙ low_bits_is W (pos (E / 2 ^ k) -ℤ pos (b * 2 ^ W)) b (E / 2 ^ k) (omega (arith, ints))
+    ∙ mod_small (E / 2 ^ k) W small
+
+-- a shift to the right by the sign is that of the extension to 64 bits, cut
+pub sar_extended : (W a k : ℕ) → IsWidth W → a < 2 ^ W →
+    low_bits 64 (int_div_euclid (signed 64 (sign_extend 64 W a)) (pos (2 ^ k))) % 2 ^ W ≡ low_bits W (int_div_euclid (signed W a) (pos (2 ^ k)))
+sar_extended W a k w p =
+    ap (λ z. low_bits 64 (int_div_euclid z (pos (2 ^ k))) % 2 ^ W) (signed_extend W a w p)
+    ∙ low_bits-mod 64 W (int_div_euclid (signed W a) (pos (2 ^ k))) (grind arith)
