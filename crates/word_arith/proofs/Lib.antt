@@ -7,3 +7,7 @@ pub mod TurnLemmas
 pub mod BitLemmas
 pub mod ExtendLemmas
 pub mod FieldLemmas
+pub mod LawLemmas
+pub mod ArmLemmas
+pub mod ProductLemmas
+pub mod DivisionLemmas

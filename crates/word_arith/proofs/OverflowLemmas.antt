@@ -1,6 +1,6 @@
 -- Signed overflow at the four widths, by the top bits of words; whether a number fits, and a product is more than its low half.
 use Rattle.std.proofs.Common.{◌≡◌, ℕ, ◌+◌, ◌-◌, ◌*◌, ◌/◌, ◌%◌, ◌^◌, ◌<◌, ◌≤◌, arith}
-use Rattle.std.specs.Prelude.{ℤ, pos, neg_ℤ, ◌+ℤ◌, ◌-ℤ◌, ◌≤ℤ◌, ◌<ℤ◌, not, ◌&&◌, ◌==◌, nat_le, int_lt, int_le}
+use Rattle.std.specs.Prelude.{ℤ, pos, neg_ℤ, ◌+ℤ◌, ◌-ℤ◌, ◌≤ℤ◌, not, ◌&&◌, ◌==◌, nat_le, int_lt, int_le}
 use Rattle.std.proofs.lemmas.Int.{ints}
 use Rattle.std.proofs.lemmas.Bool.Decides.{nat_tests}
 use Rattle.word_arith.specs.Width.{IsWidth}
@@ -27,8 +27,8 @@ pub less_by_overflow : (W a b : ℕ) → IsWidth W → a < 2 ^ W → b < 2 ^ W �
 unfolding signed fits_signed top_bit
 less_by_overflow W a b w p q = grind (arith, nat_tests, ints)
 
--- whether a number of 64 bits fits W bits, by the extension of its low bits
-pub range_by_extension : (W : ℕ) (z : ℤ) → IsWidth W → W < 64 → neg_ℤ (pos (2 ^ 63)) ≤ℤ z → z <ℤ pos (2 ^ 63) →
+-- whether a number from -(2 ^ 63) to 2 ^ 63, both included, fits W bits, by the extension of its low bits
+pub range_by_extension : (W : ℕ) (z : ℤ) → IsWidth W → W < 64 → neg_ℤ (pos (2 ^ 63)) ≤ℤ z → z ≤ℤ pos (2 ^ 63) →
     fits_signed W z ≡ (low_bits 64 z == sign_extend 64 W (low_bits 64 z % 2 ^ W))
 unfolding signed fits_signed low_bits
 range_by_extension W z w small low high = grind (arith, nat_tests, ints)

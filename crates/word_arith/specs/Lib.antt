@@ -1,4 +1,6 @@
+pub mod ArmWords
 pub mod Bits
+pub mod Laws
 pub mod Masks
 pub mod Signed
 pub mod Turns
