@@ -1,2 +1,5 @@
+pub mod ConditionLemmas
+pub mod EffectLemmas
 pub mod QuotientLemmas
+pub mod ShiftLemmas
 pub mod WordLemmas

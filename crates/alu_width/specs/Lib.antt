@@ -1,3 +1,4 @@
+pub mod ByCl
 pub mod Conditions
 pub mod Effects
 pub mod Masked

@@ -4,6 +4,7 @@
 #![tactic(auto)]
 
 mod conditions;
+mod effects;
 mod flags;
 mod operations;
 mod products;
@@ -14,6 +15,7 @@ mod turns;
 mod words;
 
 pub use conditions::cond;
+pub use effects::{shift_effects_by_cl, turn_effects_by_cl};
 pub use flags::{Flags, Outcome};
 pub use operations::{DivFault, Logic, Product, Quotient, Rotate, Shift};
 pub use words::Alu;
