@@ -1,5 +1,6 @@
 pub mod ConditionLemmas
 pub mod EffectLemmas
+pub mod LiftLemmas
 pub mod QuotientLemmas
 pub mod ShiftLemmas
 pub mod WordLemmas

@@ -1,6 +1,6 @@
 -- Carry and borrow at the four widths, by comparisons and shifts of words.
 use Rattle.std.proofs.Common.{◌≡◌, ℕ, ◌+◌, ◌-◌, ◌/◌, ◌%◌, ◌^◌, ◌<◌, ◌≤◌, arith}
-use Rattle.std.specs.Prelude.{nat_le, nat_lt, ◌==◌}
+use Rattle.std.specs.Prelude.{nat_le, nat_lt, ◌==◌, not}
 use Rattle.std.proofs.lemmas.Bool.Decides.{nat_tests}
 use Rattle.word_arith.specs.Width.{IsWidth}
 use Rattle.word_arith.specs.Bits.{bit}
@@ -32,3 +32,11 @@ difference_cut_borrow W a b c w p q r = grind arith
 -- a difference of W bits is 0 where its operands are equal
 pub difference_is_zero : (W a b : ℕ) → IsWidth W → a < 2 ^ W → b < 2 ^ W → (((a + (2 ^ W - b)) % 2 ^ W) == 0) ≡ (a == b)
 difference_is_zero W a b w p q = grind (arith, nat_tests)
+
+-- a difference with a borrow in borrows where the first operand is at most the second
+pub borrow_at_most : (a b : ℕ) → nat_lt a (b + 1) ≡ nat_le a b
+borrow_at_most a b = grind (arith, nat_tests)
+
+-- a difference does not borrow where the second operand is at most the first
+pub no_borrow : (a b : ℕ) → not (nat_lt a b) ≡ nat_le b a
+no_borrow a b = grind (arith, nat_tests)
