@@ -1,6 +1,6 @@
 -- Parts of words by AArch64's moves of bit fields.
-use Rattle.std.proofs.Common.{◌≡◌, ℕ, ◌+◌, ◌-◌, ◌*◌, ◌/◌, ◌%◌, ◌^◌, ◌<◌, ◌≤◌, Bool, true, false, arith, refl, ap, sym, ◌∙◌}
-use Rattle.std.specs.Prelude.{pos, nat_le}
+use Rattle.std.proofs.Common.{◌≡◌, ℕ, ◌+◌, ◌-◌, ◌*◌, ◌/◌, ◌%◌, ◌^◌, ◌<◌, ◌≤◌, Bool, true, false, arith, ap, sym, ◌∙◌}
+use Rattle.std.specs.Prelude.{pos}
 use Rattle.std.specs.Int.{int_div_euclid}
 use Rattle.std.proofs.lemmas.Bool.{le-leb, lt-leb}
 use Rattle.std.proofs.lemmas.Nat.{pow_pos, pow-add, shr_split, shr_high, shr_below, mod_below}
@@ -28,7 +28,7 @@ move_up sign w immr k len n e some h =
     let count : len - 1 + 1 ≡ len = omega arith in
     let up : w - immr ≡ k = omega arith in
     rw (lt-leb immr (len - 1) (omega arith), count, up)
-        (ap (λ m. extended sign immr len (m % 2 ^ len) * 2 ^ k) (div-one n))
+    (ap (λ m. extended sign immr len (m % 2 ^ len) * 2 ^ k) (div-one n))
 
 -- UXTB, UXTH and the like: the low bits, by zeros
 pub uxt : (w len n : ℕ) → 0 < len → bitfield_move false w 0 (len - 1) n ≡ n % 2 ^ len
@@ -62,7 +62,7 @@ asr w k n h p =
     let b : ℕ = bit (top_bit w n) in
     let short = sign_extend_is w (w - k) (n / 2 ^ k) (omega arith) small in
     let short_b : sign_extend w (w - k) (n / 2 ^ k) ≡ n / 2 ^ k + b * (2 ^ w - 2 ^ (w - k)) =
-        short ∙ ap (λ t. n / 2 ^ k + bit t * (2 ^ w - 2 ^ (w - k))) (top_bit_shr w n k h) in
+    short ∙ ap (λ t. n / 2 ^ k + bit t * (2 ^ w - 2 ^ (w - k))) (top_bit_shr w n k h) in
     let long = sign_extend_is (w + k) w n (omega arith) p in
     let wide : 2 ^ (w + k) ≡ 2 ^ w * 2 ^ k = pow-add 2 w k in
     let cut : 2 ^ w ≡ 2 ^ (w - k) * 2 ^ k = pow_split w k (omega arith) in
@@ -71,7 +71,7 @@ asr w k n h p =
     let d_is : 2 ^ w ≡ d + 2 ^ (w - k) = omega arith in
     let gap : 2 ^ (w + k) - 2 ^ w ≡ d * 2 ^ k = omega (arith, wide, cut, ap (λ m. m * 2 ^ k) d_is) in
     let parts : n + b * (2 ^ (w + k) - 2 ^ w) ≡ (n / 2 ^ k + b * d) * 2 ^ k + n % 2 ^ k =
-        omega (arith, shr_split n k, ap (λ m. b * m) gap) in
+    omega (arith, shr_split n k, ap (λ m. b * m) gap) in
     move_down true w k (w - 1) (w - k) n (omega arith) (omega arith)
     ∙ ap (λ m. sign_extend w (w - k) m) (mod_small (n / 2 ^ k) (w - k) small)
     ∙ short_b

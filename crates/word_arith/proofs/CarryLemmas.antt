@@ -1,5 +1,5 @@
 -- Carry and borrow at the four widths, by comparisons and shifts of words.
-use Rattle.std.proofs.Common.{◌≡◌, ℕ, ◌+◌, ◌-◌, ◌/◌, ◌%◌, ◌^◌, ◌<◌, ◌≤◌, arith}
+use Rattle.std.proofs.Common.{◌≡◌, ℕ, ◌+◌, ◌-◌, ◌/◌, ◌%◌, ◌^◌, ◌<◌, arith}
 use Rattle.std.specs.Prelude.{nat_le, nat_lt, ◌==◌, not}
 use Rattle.std.proofs.lemmas.Bool.Decides.{nat_tests}
 use Rattle.word_arith.specs.Width.{IsWidth}

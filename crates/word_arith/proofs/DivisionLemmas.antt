@@ -1,13 +1,13 @@
 -- Division by words: what SDIV, UDIV and MSUB of extended operands give.
-use Rattle.std.proofs.Common.{◌≡◌, ◌≢◌, ℕ, ◌+◌, ◌-◌, ◌*◌, ◌/◌, ◌%◌, ◌^◌, ◌<◌, ◌≤◌, suc, arith, refl, ap, sym, ◌∙◌, true, false}
-use Rattle.std.specs.Prelude.{ℤ, pos, negsuc, neg_ℤ, ◌+ℤ◌, ◌-ℤ◌, ◌*ℤ◌, ◌≤ℤ◌, int_div, int_rem, ◌==◌, nat_lt, nat_eq}
+use Rattle.std.proofs.Common.{◌≡◌, ◌≢◌, ℕ, ◌+◌, ◌-◌, ◌*◌, ◌/◌, ◌%◌, ◌^◌, ◌<◌, suc, arith, ap, sym, ◌∙◌, false}
+use Rattle.std.specs.Prelude.{ℤ, pos, negsuc, neg_ℤ, ◌-ℤ◌, ◌*ℤ◌, ◌≤ℤ◌, int_div, int_rem, ◌==◌, nat_lt}
 use Rattle.std.proofs.lemmas.Int.{ints, quot-rem}
 use Rattle.std.proofs.lemmas.Bool.Decides.{nat_tests}
 use Rattle.std.proofs.Math.Nat.{div-le_self, mod-add-div'}
 use Rattle.word_arith.specs.Width.{IsWidth}
 use Rattle.word_arith.specs.Signed.{signed, fits_signed, low_bits, sign_extend}
-use Rattle.word_arith.specs.ArmWords.{msub, sdiv, udiv}
-use Rattle.word_arith.proofs.LowBitsLemmas.{low_bits-sub, low_bits-mul, low_bits-mod, low_bits_pos}
+use Rattle.word_arith.specs.ArmWords.{msub, sdiv}
+use Rattle.word_arith.proofs.LowBitsLemmas.{low_bits-sub, low_bits-mul, low_bits-mod}
 use Rattle.word_arith.proofs.SignedLemmas.{signed_extend}
 use Rattle.word_arith.proofs.ShiftLemmas.{mod_small}
 use Rattle.std.proofs.lemmas.Nat.{mod_low}

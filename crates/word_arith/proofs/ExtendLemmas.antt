@@ -1,14 +1,15 @@
 -- Extension by the sign, and division by a power of two that rounds down, at any width.
-use Rattle.std.proofs.Common.{◌≡◌, ℕ, ◌+◌, ◌-◌, ◌*◌, ◌/◌, ◌%◌, ◌^◌, ◌<◌, ◌≤◌, Bool, true, false, arith, refl, ap, sym, ◌∙◌}
-use Rattle.std.specs.Prelude.{ℤ, pos, negsuc, ◌+ℤ◌, ◌-ℤ◌, nat_le, if◌then◌else◌, cond}
-use Rattle.std.specs.Int.{int_div_euclid}
+use Rattle.std.proofs.Common.{◌≡◌, ℕ, ◌+◌, ◌-◌, ◌*◌, ◌/◌, ◌%◌, ◌^◌, ◌<◌, ◌≤◌, Bool, true, false, arith, ap, ◌∙◌}
+use Rattle.std.specs.Prelude.{ℤ, pos, negsuc, ◌+ℤ◌, ◌-ℤ◌, nat_le, if◌then◌else◌}
+use Rattle.std.specs.Int.{int_div_euclid, bit_at}
+use Rattle.std.proofs.lemmas.Bool.Decides.{nat_tests}
+use Rattle.std.proofs.lemmas.Nat.Bits.{bit_at_cat_low, bit_at_cat_high, bit_at_ones, bit_at-zero}
 use Rattle.std.proofs.lemmas.Int.{ints}
 use Rattle.std.proofs.lemmas.Nat.{pow_pos, pow-add, shr_split, shr_high, shr_below, mod_below}
 use Rattle.std.proofs.Math.Nat.{lt_of_mul-lt-mul_right, pow-le-pow_right}
 use Rattle.word_arith.specs.Width.{IsWidth}
 use Rattle.word_arith.specs.Bits.{bit, top_bit}
 use Rattle.word_arith.specs.Signed.{signed, low_bits, sign_extend}
-use Rattle.word_arith.proofs.BitLemmas.{pow_half}
 use Rattle.word_arith.proofs.LowBitsLemmas.{low_bits_is, low_bits_below, low_bits-mod}
 use Rattle.word_arith.proofs.ShiftLemmas.{pow_split, mod_small}
 use Rattle.word_arith.proofs.SignedLemmas.{signed_extend}
@@ -94,3 +95,34 @@ pub sar_extended : (W a k : ℕ) → IsWidth W → a < 2 ^ W →
 sar_extended W a k w p =
     ap (λ z. low_bits 64 (int_div_euclid z (pos (2 ^ k))) % 2 ^ W) (signed_extend W a w p)
     ∙ low_bits-mod 64 W (int_div_euclid (signed W a) (pos (2 ^ k))) (grind arith)
+
+-- a shift to the right by the sign by W - 1 fills the word with the sign
+pub sign_fill : (W a : ℕ) → IsWidth W → a < 2 ^ W →
+    low_bits W (int_div_euclid (signed W a) (pos (2 ^ (W - 1)))) ≡ bit (top_bit W a) * (2 ^ W - 1)
+unfolding signed low_bits top_bit
+sign_fill W a w p = grind (arith, nat_tests, ints)
+
+-- an extension in two parts: the copies of the top bit, and the word
+pub sign_extend_parts : (V W a : ℕ) → W ≤ V → a < 2 ^ W → sign_extend V W a ≡ bit (top_bit W a) * (2 ^ (V - W) - 1) * 2 ^ W + a
+sign_extend_parts V W a h p =
+    let X : ℕ = 2 ^ (V - W) - 1 in
+    let one_more : 2 ^ (V - W) ≡ X + 1 = omega (arith, pow_pos (V - W)) in
+    let gap : 2 ^ V - 2 ^ W ≡ X * 2 ^ W = omega (arith, pow_split V W h, ap (λ m. m * 2 ^ W) one_more) in
+    omega (arith, sign_extend_is V W a h p, ap (λ m. bit (top_bit W a) * m) gap)
+
+-- a bit of the word stays in its extension
+pub bit_at-sign_extend_low : (V W a i : ℕ) → W ≤ V → a < 2 ^ W → i < W → bit_at (sign_extend V W a) i ≡ bit_at a i
+bit_at-sign_extend_low V W a i h p low =
+    ap (λ m. bit_at m i) (sign_extend_parts V W a h p) ∙ bit_at_cat_low (bit (top_bit W a) * (2 ^ (V - W) - 1)) W a i low
+
+-- copies of a flag
+copies : (b : Bool) (k i : ℕ) → i < k → bit_at (bit b * (2 ^ k - 1)) i ≡ bit b
+copies true k i h = let e : 1 * (2 ^ k - 1) ≡ 2 ^ k - 1 = omega arith in ap (λ m. bit_at m i) e ∙ bit_at_ones k i h
+copies false k i h = let e : 0 * (2 ^ k - 1) ≡ 0 = omega arith in ap (λ m. bit_at m i) e ∙ bit_at-zero i
+
+-- a new bit of an extension is the top bit
+pub bit_at-sign_extend_high : (V W a i : ℕ) → a < 2 ^ W → W ≤ i → i < V → bit_at (sign_extend V W a) i ≡ bit (top_bit W a)
+bit_at-sign_extend_high V W a i p high below =
+    ap (λ m. bit_at m i) (sign_extend_parts V W a (omega arith) p)
+    ∙ bit_at_cat_high (bit (top_bit W a) * (2 ^ (V - W) - 1)) W a i p high
+    ∙ copies (top_bit W a) (V - W) (i - W) (omega arith)

@@ -87,5 +87,5 @@ low_bits-mod V W z h =
     let L : ℕ = low_bits V z in
     let cut = pow_split V W h in
     sym (low_bits_is W z (r.0 * 2 ^ (V - W)) (L + r.1 * 2 ^ (V - W) * 2 ^ W)
-            (omega (arith, ints, r.2, ap (λ n. r.0 * n) cut, ap (λ n. r.1 * n) cut))
-        ∙ add-mul-mod_self_right L (r.1 * 2 ^ (V - W)) (2 ^ W))
+    (omega (arith, ints, r.2, ap (λ n. r.0 * n) cut, ap (λ n. r.1 * n) cut))
+    ∙ add-mul-mod_self_right L (r.1 * 2 ^ (V - W)) (2 ^ W))

@@ -1,6 +1,6 @@
 -- Signed overflow at the four widths, by the top bits of words; whether a number fits, and a product is more than its low half.
-use Rattle.std.proofs.Common.{◌≡◌, ℕ, ◌+◌, ◌-◌, ◌*◌, ◌/◌, ◌%◌, ◌^◌, ◌<◌, ◌≤◌, arith}
-use Rattle.std.specs.Prelude.{ℤ, pos, neg_ℤ, ◌+ℤ◌, ◌-ℤ◌, ◌≤ℤ◌, not, ◌&&◌, ◌==◌, nat_le, int_lt, int_le}
+use Rattle.std.proofs.Common.{◌≡◌, ℕ, ◌+◌, ◌-◌, ◌*◌, ◌/◌, ◌%◌, ◌^◌, ◌<◌, arith}
+use Rattle.std.specs.Prelude.{ℤ, pos, neg_ℤ, ◌+ℤ◌, ◌-ℤ◌, ◌≤ℤ◌, not, ◌&&◌, ◌||◌, ◌==◌, int_lt, int_le}
 use Rattle.std.proofs.lemmas.Int.{ints}
 use Rattle.std.proofs.lemmas.Bool.Decides.{nat_tests}
 use Rattle.word_arith.specs.Width.{IsWidth}
@@ -42,3 +42,10 @@ pub over_signed : (W p : ℕ) → IsWidth W → p < 2 ^ (2 * W) →
     (p == sign_extend (2 * W) W (p % 2 ^ W)) ≡ (p / 2 ^ W == bit (top_bit W (p % 2 ^ W)) * (2 ^ W - 1))
 unfolding signed low_bits top_bit
 over_signed W p w h = grind (arith, nat_tests, ints)
+
+-- after a difference, the result is 0 or sign differs from overflow where the first operand is at most the second with sign
+pub at_most_by_overflow : (W a b : ℕ) → IsWidth W → a < 2 ^ W → b < 2 ^ W →
+    ((((a + (2 ^ W - b)) % 2 ^ W) == 0) || differ (top_bit W ((a + (2 ^ W - b)) % 2 ^ W)) (not (fits_signed W (signed W a -ℤ signed W b))))
+    ≡ int_le (signed W a) (signed W b)
+unfolding signed fits_signed top_bit
+at_most_by_overflow W a b w p q = grind (arith, nat_tests, ints)

@@ -1,11 +1,9 @@
 -- Products with sign by products of words.
-use Rattle.std.proofs.Common.{◌≡◌, ℕ, ◌+◌, ◌-◌, ◌*◌, ◌/◌, ◌%◌, ◌^◌, ◌<◌, ◌≤◌, arith, refl, ap, sym, ◌∙◌}
+use Rattle.std.proofs.Common.{◌≡◌, ℕ, ◌*◌, ◌%◌, ◌^◌, ◌<◌, ◌≤◌, ap, sym, ◌∙◌}
 use Rattle.std.specs.Prelude.{◌*ℤ◌}
 use Rattle.word_arith.specs.Signed.{signed, low_bits, sign_extend}
-use Rattle.word_arith.specs.Width.{IsWidth}
 use Rattle.word_arith.proofs.ExtendLemmas.{low_bits_signed}
 use Rattle.word_arith.proofs.LowBitsLemmas.{low_bits-mod, low_bits-mul}
-use Rattle.word_arith.proofs.SignedLemmas.{signed_extend}
 
 -- the low half of a product is the same with sign as without
 pub product_low : (V W a b : ℕ) → W ≤ V → a < 2 ^ W → b < 2 ^ W →

@@ -1,6 +1,6 @@
 -- What words mean in two's complement.
-use Rattle.std.proofs.Common.{◌≡◌, ℕ, ◌+◌, ◌-◌, ◌*◌, ◌%◌, ◌^◌, ◌<◌, ◌≤◌, ◌≢◌, arith, refl, ap, sym, ◌∙◌, true, ◌==◌}
-use Rattle.std.specs.Prelude.{ℤ, pos, ◌-ℤ◌, nat_le, nat_lt, neg_ℤ, int_lt}
+use Rattle.std.proofs.Common.{◌≡◌, ℕ, ◌*◌, ◌^◌, ◌<◌, ◌≢◌, arith, true}
+use Rattle.std.specs.Prelude.{ℤ, pos}
 use Rattle.std.proofs.lemmas.Int.{ints}
 use Rattle.std.proofs.lemmas.Bool.Decides.{nat_tests}
 use Rattle.word_arith.specs.Width.{IsWidth}

@@ -1,9 +1,10 @@
 -- Turns of words.
-use Rattle.std.proofs.Common.{◌≡◌, ℕ, ◌+◌, ◌-◌, ◌*◌, ◌/◌, ◌%◌, ◌^◌, ◌<◌, ◌≤◌, arith, refl, ap, sym, ◌∙◌, subst}
+use Rattle.std.proofs.Common.{◌≡◌, ℕ, ◌+◌, ◌-◌, ◌*◌, ◌/◌, ◌%◌, ◌^◌, ◌<◌, ◌≤◌, arith, ap, sym, ◌∙◌, zero, suc}
 use Rattle.std.proofs.lemmas.Nat.{pow_pos, shr_below, mod_below, mul-add-lt, or_mod, or_shifted, shr_split, shr_le, shr-shr}
 use Rattle.std.specs.Prelude.{bit_or}
 use Rattle.std.specs.Int.{bit_at}
 use Rattle.std.proofs.lemmas.Nat.Bits.{bit_at_cat_low, bit_at_cat_high}
+use Rattle.std.proofs.Math.Nat.{mod-eq_of_lt, mod_self}
 use Rattle.word_arith.specs.Turns.{turn_left}
 use Rattle.word_arith.proofs.ShiftLemmas.{pow_split, shl_mod, mod_mod, mod_small}
 
@@ -31,6 +32,17 @@ turn_left_by_shifts V W a k wide p h =
     ∙ or_shifted (a % 2 ^ (W - k)) k (a / 2 ^ (W - k)) back
     ∙ sym (turn_left_parts W a k h)
 
+-- the opposite of the opposite turn
+there_and_back : (W k : ℕ) → k < W → (W - (W - k) % W) % W ≡ k
+there_and_back W zero h =
+    let whole : W - 0 ≡ W = omega arith in
+    let none : (W - 0) % W ≡ 0 = ap (λ m. m % W) whole ∙ mod_self W in
+    ap (λ m. (W - m) % W) none ∙ none
+there_and_back W (suc k) h =
+    let less : W - suc k < W = omega arith in
+    let back : W - (W - suc k) ≡ suc k = omega arith in
+    ap (λ m. (W - m) % W) (mod-eq_of_lt less) ∙ ap (λ m. m % W) back ∙ mod-eq_of_lt h
+
 -- a turn by 0 changes nothing
 pub turn_left-zero : (W a : ℕ) → a < 2 ^ W → turn_left W a 0 ≡ a
 turn_left-zero W a p =
@@ -54,3 +66,7 @@ bit_at-turn_left_high W a k i h low =
     ap (λ m. bit_at m i) (turn_left_parts W a k h)
     ∙ bit_at_cat_low (a % 2 ^ (W - k)) k (a / 2 ^ (W - k)) i low
     ∙ ap (λ m. m % 2) (shr-shr a (W - k) i)
+
+-- a turn to the left by the opposite turn to the right, k below W
+pub turn_left_by_right : (W a k : ℕ) → k < W → turn_left W a ((W - (W - k) % W) % W) ≡ turn_left W a k
+turn_left_by_right W a k h = ap (λ m. turn_left W a m) (there_and_back W k h)
