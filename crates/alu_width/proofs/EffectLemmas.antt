@@ -64,7 +64,7 @@ carry_union : (op : Shift) (W : ℕ) → masked W 0 ≡ 0 → ((count : ℕ) →
 unfolding row
 carry_union op W start all =
     kept_union (λ count. (shift_effects op W (masked W count)).cf) (rw start)
-        (λ count. row_cf (masked W count == 0) (masked W count == 1) (is_sar op || nat_lt (masked W count) W) (all count))
+    (λ count. row_cf (masked W count == 0) (masked W count == 1) (is_sar op || nat_lt (masked W count) W) (all count))
 
 -- the masked counts 0 and 2
 start_of : (W : ℕ) → IsWidth W → masked W 0 ≡ 0
@@ -79,12 +79,13 @@ by_carry : (op : Shift) (W : ℕ) (carry : Effect) → masked W 0 ≡ 0 → mask
     IsUnionOfRows (effects carry Kept Kept Undefined) (λ count. shift_effects op W (masked W count))
 unfolding row
 by_carry op W carry start two union = record {
-    cf = union;
-    zf = kept_union (λ count. (shift_effects op W (masked W count)).zf) (rw start)
-        (λ count. row_zf (masked W count == 0) (masked W count == 1) (is_sar op || nat_lt (masked W count) W));
-    sf = kept_union (λ count. (shift_effects op W (masked W count)).sf) (rw start)
-        (λ count. row_sf (masked W count == 0) (masked W count == 1) (is_sar op || nat_lt (masked W count) W));
-    of = undefined_union (λ count. (shift_effects op W (masked W count)).of) 2 (lit< tt) (rw two (row_of (is_sar op || nat_lt 2 W))) }
+  cf = union;
+  zf = kept_union (λ count. (shift_effects op W (masked W count)).zf) (rw start)
+      (λ count. row_zf (masked W count == 0) (masked W count == 1) (is_sar op || nat_lt (masked W count) W));
+  sf = kept_union (λ count. (shift_effects op W (masked W count)).sf) (rw start)
+      (λ count. row_sf (masked W count == 0) (masked W count == 1) (is_sar op || nat_lt (masked W count) W));
+  of = undefined_union (λ count. (shift_effects op W (masked W count)).of) 2 (lit< tt) (rw two (row_of (is_sar op || nat_lt 2 W)));
+}
 
 -- every masked count is below a width of 32 or 64 bits
 below_32 : (count : ℕ) → nat_lt (masked 32 count) 32 ≡ true
@@ -96,19 +97,25 @@ below_64 count = grind (arith, nat_tests)
 -- the row of a shift by CL is the union of the rows by numbers
 pub shifts_by_cl : ShiftsByCl
 shifts_by_cl Shl W w = elim w [
-      inl e ↦ rw e (by_carry Shl 8 Undefined refl refl (undefined_union (λ count. (shift_effects Shl 8 (masked 8 count)).cf) 31 (lit< tt) refl))
-    | inr v ↦ elim v [
-      inl e ↦ rw e (by_carry Shl 16 Undefined refl refl (undefined_union (λ count. (shift_effects Shl 16 (masked 16 count)).cf) 31 (lit< tt) refl))
+  | inl e ↦ rw e (by_carry Shl 8 Undefined refl refl (undefined_union (λ count. (shift_effects Shl 8 (masked 8 count)).cf) 31 (lit< tt) refl))
+  | inr v ↦ elim v [
+    | inl e ↦ rw e (by_carry Shl 16 Undefined refl refl (undefined_union (λ count. (shift_effects Shl 16 (masked 16 count)).cf) 31 (lit< tt) refl))
     | inr u ↦ elim u [
-      inl e ↦ rw e (by_carry Shl 32 Kept refl refl (carry_union Shl 32 refl below_32))
-    | inr e ↦ rw e (by_carry Shl 64 Kept refl refl (carry_union Shl 64 refl below_64)) ] ] ]
+      | inl e ↦ rw e (by_carry Shl 32 Kept refl refl (carry_union Shl 32 refl below_32))
+      | inr e ↦ rw e (by_carry Shl 64 Kept refl refl (carry_union Shl 64 refl below_64))
+    ]
+  ]
+]
 shifts_by_cl Shr W w = elim w [
-      inl e ↦ rw e (by_carry Shr 8 Undefined refl refl (undefined_union (λ count. (shift_effects Shr 8 (masked 8 count)).cf) 31 (lit< tt) refl))
-    | inr v ↦ elim v [
-      inl e ↦ rw e (by_carry Shr 16 Undefined refl refl (undefined_union (λ count. (shift_effects Shr 16 (masked 16 count)).cf) 31 (lit< tt) refl))
+  | inl e ↦ rw e (by_carry Shr 8 Undefined refl refl (undefined_union (λ count. (shift_effects Shr 8 (masked 8 count)).cf) 31 (lit< tt) refl))
+  | inr v ↦ elim v [
+    | inl e ↦ rw e (by_carry Shr 16 Undefined refl refl (undefined_union (λ count. (shift_effects Shr 16 (masked 16 count)).cf) 31 (lit< tt) refl))
     | inr u ↦ elim u [
-      inl e ↦ rw e (by_carry Shr 32 Kept refl refl (carry_union Shr 32 refl below_32))
-    | inr e ↦ rw e (by_carry Shr 64 Kept refl refl (carry_union Shr 64 refl below_64)) ] ] ]
+      | inl e ↦ rw e (by_carry Shr 32 Kept refl refl (carry_union Shr 32 refl below_32))
+      | inr e ↦ rw e (by_carry Shr 64 Kept refl refl (carry_union Shr 64 refl below_64))
+    ]
+  ]
+]
 shifts_by_cl Sar W w =
     by_carry Sar W Kept (start_of W w) (two_of W w) (carry_union Sar W (start_of W w) (λ count. refl))
 
@@ -133,7 +140,8 @@ turns_by_cl W w =
     let start = start_of W w in
     let two = two_of W w in
     record {
-        cf = kept_union (λ count. (turn_effects (masked W count)).cf) (rw start) (λ count. turn_cf (masked W count == 0) (masked W count == 1));
-        zf = kept_union (λ count. (turn_effects (masked W count)).zf) (rw start) (λ count. turn_zf (masked W count == 0) (masked W count == 1));
-        sf = kept_union (λ count. (turn_effects (masked W count)).sf) (rw start) (λ count. turn_sf (masked W count == 0) (masked W count == 1));
-        of = undefined_union (λ count. (turn_effects (masked W count)).of) 2 (lit< tt) (rw two) }
+      cf = kept_union (λ count. (turn_effects (masked W count)).cf) (rw start) (λ count. turn_cf (masked W count == 0) (masked W count == 1));
+      zf = kept_union (λ count. (turn_effects (masked W count)).zf) (rw start) (λ count. turn_zf (masked W count == 0) (masked W count == 1));
+      sf = kept_union (λ count. (turn_effects (masked W count)).sf) (rw start) (λ count. turn_sf (masked W count == 0) (masked W count == 1));
+      of = undefined_union (λ count. (turn_effects (masked W count)).of) 2 (lit< tt) (rw two);
+    }

@@ -44,13 +44,14 @@ add_by_words W a b r w p q is_r =
     let v : (a + b + 0) % 2 ^ W ≡ r = ap (λ m. m % 2 ^ W) none ∙ cut in
     let word : r < 2 ^ W = rw (← cut) (mod_below (a + b) (2 ^ W) (pow_pos W)) in
     record {
-        value = v;
-        carry = ap (λ m. bit (nat_le (2 ^ W) m)) none ∙ ap bit (carry_below W a b w p q) ∙ ap (λ m. bit (nat_lt m a)) cut;
-        zero_flag = ap (λ m. bit (m == 0)) v;
-        sign = ap (λ m. bit (top_bit W m)) v ∙ sym (top_bit_is W r (positive W w) word);
-        overflow = ap bit (sum_overflow W a b 0 w p q (lit< tt))
-            ∙ ap (λ m. bit (differ (top_bit W a) (top_bit W m) && differ (top_bit W b) (top_bit W m))) v
-            ∙ sym (top_and_xor W a r b r (positive W w) p word q word) }
+      value = v;
+      carry = ap (λ m. bit (nat_le (2 ^ W) m)) none ∙ ap bit (carry_below W a b w p q) ∙ ap (λ m. bit (nat_lt m a)) cut;
+      zero_flag = ap (λ m. bit (m == 0)) v;
+      sign = ap (λ m. bit (top_bit W m)) v ∙ sym (top_bit_is W r (positive W w) word);
+      overflow = ap bit (sum_overflow W a b 0 w p q (lit< tt))
+          ∙ ap (λ m. bit (differ (top_bit W a) (top_bit W m) && differ (top_bit W b) (top_bit W m))) v
+          ∙ sym (top_and_xor W a r b r (positive W w) p word q word);
+    }
 
 -- SUB, CMP and, where a is 0, NEG by a difference in 64 bits cut to W: the borrow by `<`, the overflow by `&` and `^`
 pub sub_by_words : (W a b r : ℕ) → IsWidth W → a < 2 ^ W → b < 2 ^ W → r ≡ (a + (2 ^ 64 - b)) % 2 ^ 64 % 2 ^ W →
@@ -62,13 +63,14 @@ sub_by_words W a b r w p q is_r =
     let v : (a + (2 ^ W - (b + 0))) % 2 ^ W ≡ r = ap (λ m. (a + (2 ^ W - m)) % 2 ^ W) none ∙ cut in
     let word : r < 2 ^ W = rw (← cut) (mod_below (a + (2 ^ W - b)) (2 ^ W) (pow_pos W)) in
     record {
-        value = v;
-        carry = ap (λ m. bit (nat_lt a m)) none;
-        zero_flag = ap (λ m. bit (m == 0)) v;
-        sign = ap (λ m. bit (top_bit W m)) v ∙ sym (top_bit_is W r (positive W w) word);
-        overflow = ap bit (difference_overflow W a b 0 w p q (lit< tt))
-            ∙ ap (λ m. bit (differ (top_bit W a) (top_bit W b) && differ (top_bit W a) (top_bit W m))) v
-            ∙ sym (top_and_xor W a b a r (positive W w) p q p word) }
+      value = v;
+      carry = ap (λ m. bit (nat_lt a m)) none;
+      zero_flag = ap (λ m. bit (m == 0)) v;
+      sign = ap (λ m. bit (top_bit W m)) v ∙ sym (top_bit_is W r (positive W w) word);
+      overflow = ap bit (difference_overflow W a b 0 w p q (lit< tt))
+          ∙ ap (λ m. bit (differ (top_bit W a) (top_bit W b) && differ (top_bit W a) (top_bit W m))) v
+          ∙ sym (top_and_xor W a b a r (positive W w) p q p word);
+    }
 
 -- ADC by a sum in 64 bits cut to W: its carry by `<`, or `<=` where there is a carry in
 pub adc_by_words : (W a b r : ℕ) → IsWidth W → a < 2 ^ W → b < 2 ^ W → r ≡ (a + b + 1) % 2 ^ 64 % 2 ^ W →
@@ -78,13 +80,14 @@ adc_by_words W a b r w p q is_r =
     let v : (a + b + 1) % 2 ^ W ≡ r = sym (sum_cut W (a + b + 1) w) ∙ sym is_r in
     let word : r < 2 ^ W = rw (← v) (mod_below (a + b + 1) (2 ^ W) (pow_pos W)) in
     record {
-        value = v;
-        carry = ap bit (carry_at_most W a b w p q) ∙ ap (λ m. bit (nat_le m a)) v;
-        zero_flag = ap (λ m. bit (m == 0)) v;
-        sign = ap (λ m. bit (top_bit W m)) v ∙ sym (top_bit_is W r (positive W w) word);
-        overflow = ap bit (sum_overflow W a b 1 w p q (lit< tt))
-            ∙ ap (λ m. bit (differ (top_bit W a) (top_bit W m) && differ (top_bit W b) (top_bit W m))) v
-            ∙ sym (top_and_xor W a r b r (positive W w) p word q word) }
+      value = v;
+      carry = ap bit (carry_at_most W a b w p q) ∙ ap (λ m. bit (nat_le m a)) v;
+      zero_flag = ap (λ m. bit (m == 0)) v;
+      sign = ap (λ m. bit (top_bit W m)) v ∙ sym (top_bit_is W r (positive W w) word);
+      overflow = ap bit (sum_overflow W a b 1 w p q (lit< tt))
+          ∙ ap (λ m. bit (differ (top_bit W a) (top_bit W m) && differ (top_bit W b) (top_bit W m))) v
+          ∙ sym (top_and_xor W a r b r (positive W w) p word q word);
+    }
 
 -- SBB with a borrow in by a difference in 64 bits cut to W: the borrow by `<=`
 pub sbb_by_words : (W a b r : ℕ) → IsWidth W → a < 2 ^ W → b < 2 ^ W → r ≡ (a + (2 ^ 64 - b) + (2 ^ 64 - 1)) % 2 ^ 64 % 2 ^ W →
@@ -94,13 +97,14 @@ sbb_by_words W a b r w p q is_r =
     let v : (a + (2 ^ W - (b + 1))) % 2 ^ W ≡ r = sym (difference_cut_borrow W a b 1 w p q (lit< tt)) ∙ sym is_r in
     let word : r < 2 ^ W = rw (← v) (mod_below (a + (2 ^ W - (b + 1))) (2 ^ W) (pow_pos W)) in
     record {
-        value = v;
-        carry = ap bit (borrow_at_most a b);
-        zero_flag = ap (λ m. bit (m == 0)) v;
-        sign = ap (λ m. bit (top_bit W m)) v ∙ sym (top_bit_is W r (positive W w) word);
-        overflow = ap bit (difference_overflow W a b 1 w p q (lit< tt))
-            ∙ ap (λ m. bit (differ (top_bit W a) (top_bit W b) && differ (top_bit W a) (top_bit W m))) v
-            ∙ sym (top_and_xor W a b a r (positive W w) p q p word) }
+      value = v;
+      carry = ap bit (borrow_at_most a b);
+      zero_flag = ap (λ m. bit (m == 0)) v;
+      sign = ap (λ m. bit (top_bit W m)) v ∙ sym (top_bit_is W r (positive W w) word);
+      overflow = ap bit (difference_overflow W a b 1 w p q (lit< tt))
+          ∙ ap (λ m. bit (differ (top_bit W a) (top_bit W b) && differ (top_bit W a) (top_bit W m))) v
+          ∙ sym (top_and_xor W a b a r (positive W w) p q p word);
+    }
 
 -- MUL's `over` is that its high half is not 0
 pub over_mul : (W a b : ℕ) → IsWidth W → (product false W a b).over ≡ not ((product false W a b).high == 0)
@@ -143,17 +147,17 @@ idiv_by_sdiv W high low by N D q w small h l p some is_N is_D is_q =
     let wide : IsWidth (2 * W) = grind arith in
     let fits : n < 2 ^ (2 * W) = grind arith in
     let given : sdiv 64 N D ≡ low_bits 64 (int_div (signed (2 * W) n) (signed W by)) =
-        ap (λ m. sdiv 64 m D) is_N ∙ ap (λ m. sdiv 64 (sign_extend 64 (2 * W) n) m) is_D ∙ sdiv_of_extended (2 * W) W n by wide w fits p some in
+    ap (λ m. sdiv 64 m D) is_N ∙ ap (λ m. sdiv 64 (sign_extend 64 (2 * W) n) m) is_D ∙ sdiv_of_extended (2 * W) W n by wide w fits p some in
     let is_q' : q ≡ low_bits 64 (int_div (signed (2 * W) n) (signed W by)) = is_q ∙ given in
     let z : ℤ = int_div (signed (2 * W) n) (signed W by) in
     let range : fits_signed W z ≡ (q == sign_extend 64 W (q % 2 ^ W)) =
-        quotient_range (2 * W) W n by wide w small fits ∙ ap (λ m. m == sign_extend 64 W (m % 2 ^ W)) (sym is_q') in
+    quotient_range (2 * W) W n by wide w small fits ∙ ap (λ m. m == sign_extend 64 W (m % 2 ^ W)) (sym is_q') in
     let low_part : low_bits W z ≡ q % 2 ^ W = sym (low_bits-mod 64 W z (omega arith)) ∙ ap (λ m. m % 2 ^ W) (sym is_q') in
     let rest : low_bits W (int_rem (signed (2 * W) n) (signed W by)) ≡ msub 64 N q D % 2 ^ W =
-        sym (remainder_in_64 (2 * W) W n by w)
-        ∙ ap (λ m. msub 64 m (low_bits 64 z) (sign_extend 64 W by) % 2 ^ W) (sym is_N)
-        ∙ ap (λ m. msub 64 N m (sign_extend 64 W by) % 2 ^ W) (sym is_q')
-        ∙ ap (λ m. msub 64 N q m % 2 ^ W) (sym is_D) in
+    sym (remainder_in_64 (2 * W) W n by w)
+    ∙ ap (λ m. msub 64 m (low_bits 64 z) (sign_extend 64 W by) % 2 ^ W) (sym is_N)
+    ∙ ap (λ m. msub 64 N m (sign_extend 64 W by) % 2 ^ W) (sym is_q')
+    ∙ ap (λ m. msub 64 N q m % 2 ^ W) (sym is_D) in
     quotient_signed W high low by (signed (2 * W) n) (signed W by) some refl refl
     ∙ ap (λ t. if t then answer (low_bits W z) (low_bits W (int_rem (signed (2 * W) n) (signed W by))) else Err Range) range
     ∙ ap (λ m. if q == sign_extend 64 W (q % 2 ^ W) then answer m (low_bits W (int_rem (signed (2 * W) n) (signed W by))) else Err Range) low_part

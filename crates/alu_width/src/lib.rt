@@ -11,6 +11,8 @@ mod products;
 mod quotients;
 mod shifts;
 mod sums;
+#[cfg(test)]
+mod tests;
 mod turns;
 mod words;
 

@@ -73,6 +73,10 @@ impl<const W: u32> Alu<W> {
         ensures { result ≡ signed (2 * W) n }
     {
         let mask = Self::double_mask();
-        if n > mask / 2 { -1 - (mask - n) as i128 } else { n as i128 }
+        if n > mask / 2 {
+            -1 - (mask - n) as i128
+        } else {
+            n as i128
+        }
     }
 }

@@ -33,7 +33,11 @@ impl<const W: u32> Alu<W> {
         ensures low { neg_ℤ (pos (2 ^ 63)) ≤ℤ result }
         ensures high { result <ℤ pos (2 ^ 63) }
     {
-        if Self::top_bit(a) { i128::from(a) - (1i128 << W) } else { i128::from(a) }
+        if Self::top_bit(a) {
+            i128::from(a) - (1i128 << W)
+        } else {
+            i128::from(a)
+        }
     }
 
     #[tactic(auto, unfolding(word_arith::specs::Signed::fits_signed))]
