@@ -1,11 +1,11 @@
 -- The rows of shifts and rotates by CL are the unions of the rows by numbers.
-use Rattle.std.proofs.Common.{◌≡◌, ◌≢◌, ℕ, ◌+◌, ◌-◌, ◌%◌, ◌<◌, ◌≤◌, Bool, true, false, arith, refl, ap, sym, ◌∙◌, inl, inr, ◌↔◌, ◌⊎◌, lit<}
-use Rattle.std.specs.Prelude.{IsTrue, ◌==◌, nat_lt, nat_le, ◌||◌, if◌then◌else◌}
+use Rattle.std.proofs.Common.{◌≡◌, ◌≢◌, ℕ, ◌<◌, Bool, true, false, arith, refl, inl, inr, lit<}
+use Rattle.std.specs.Prelude.{IsTrue, ◌==◌, nat_lt, ◌||◌, if◌then◌else◌}
 use Rattle.std.proofs.lemmas.Bool.Decides.{nat_tests}
 use Rattle.word_arith.specs.Width.{IsWidth}
 use Rattle.alu_width.specs.declared.operations.Shift.{Shift}
 use Rattle.alu_width.specs.declared.operations.Shift.TheVariants.{Shl, Shr, Sar}
-use Rattle.alu_width.specs.Effects.{Effect, Effects, Kept, Defined, Undefined, effects, is_sar, leaves_undefined, shift_effects, turn_effects, shift_by_cl_effects, turn_by_cl_effects}
+use Rattle.alu_width.specs.Effects.{Effect, Effects, Kept, Defined, Undefined, effects, is_sar, leaves_undefined, shift_effects, turn_effects}
 use Rattle.alu_width.specs.Masked.{masked}
 use Rattle.alu_width.specs.ByCl.{IsUnion, IsUnionOfRows, ShiftsByCl, TurnsByCl}
 

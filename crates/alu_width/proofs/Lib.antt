@@ -1,3 +1,4 @@
+pub mod CallerLemmas
 pub mod ConditionLemmas
 pub mod EffectLemmas
 pub mod LiftLemmas

@@ -1,11 +1,11 @@
 -- Whole operations by words of 64 bits, as a translator writes them.
-use Rattle.std.proofs.Common.{◌≡◌, ◌≢◌, ℕ, ◌+◌, ◌-◌, ◌*◌, ◌/◌, ◌%◌, ◌^◌, ◌<◌, ◌≤◌, Bool, true, false, arith, refl, ap, sym, ◌∙◌, lit<}
-use Rattle.std.specs.Prelude.{ℤ, pos, ◌*ℤ◌, nat_lt, nat_le, ◌==◌, not, ◌&&◌, bit_and, bit_xor, int_div, int_rem, if◌then◌else◌, Result, Ok, Err}
+use Rattle.std.proofs.Common.{◌≡◌, ◌≢◌, ℕ, ◌+◌, ◌-◌, ◌*◌, ◌/◌, ◌%◌, ◌^◌, ◌<◌, true, false, arith, refl, ap, sym, ◌∙◌, lit<}
+use Rattle.std.specs.Prelude.{ℤ, ◌*ℤ◌, nat_lt, nat_le, ◌==◌, not, ◌&&◌, bit_and, bit_xor, int_div, int_rem, if◌then◌else◌, Result, Ok, Err}
 use Rattle.std.proofs.lemmas.Bool.Decides.{nat_tests}
 use Rattle.std.proofs.lemmas.Nat.{pow_pos, mod_below}
 use Rattle.word_arith.specs.Width.{IsWidth}
 use Rattle.word_arith.specs.Bits.{bit, differ, top_bit}
-use Rattle.word_arith.specs.Signed.{signed, low_bits, fits_signed, sign_extend, extended}
+use Rattle.word_arith.specs.Signed.{signed, low_bits, fits_signed, sign_extend}
 use Rattle.word_arith.specs.ArmWords.{msub, sdiv, udiv, smulh, umulh}
 use Rattle.word_arith.proofs.BitLemmas.{top_bit_is, top_and_xor}
 use Rattle.word_arith.proofs.CarryLemmas.{carry_below, carry_at_most, borrow_at_most, sum_cut, difference_cut, difference_cut_borrow}
@@ -19,7 +19,7 @@ use Rattle.alu_width.specs.declared.operations.DivFault.{DivFault}
 use Rattle.alu_width.specs.declared.operations.DivFault.TheVariants.{Range, Zero}
 use Rattle.alu_width.specs.Sums.{outcome, sum_outcome, difference_outcome}
 use Rattle.alu_width.specs.Products.{product}
-use Rattle.alu_width.specs.Quotients.{quotient, signed_quotient, plain_quotient}
+use Rattle.alu_width.specs.Quotients.{quotient, plain_quotient}
 use Rattle.alu_width.proofs.QuotientLemmas.{quotient_signed}
 
 -- an outcome as five words, each flag as a number

@@ -4,7 +4,6 @@ use Rattle.std.specs.Prelude.{ℕ, Bool, true, false, ◌==◌, ◌||◌, nat_lt
 use Rattle.alu_width.specs.declared.flags.Flags.{Flags}
 use Rattle.alu_width.specs.declared.operations.Shift.{Shift}
 use Rattle.alu_width.specs.declared.operations.Shift.TheVariants.{Shl, Shr, Sar}
-use Rattle.alu_width.specs.Masked.{masked}
 
 -- a flag stays as it was, is set by the result, or is left undefined
 pub data Effect : Type 0 where

@@ -1,4 +1,5 @@
 pub mod ByCl
+pub mod Comparisons
 pub mod Conditions
 pub mod Effects
 pub mod Masked

@@ -1,5 +1,5 @@
 -- SHL, SHR and SAR (Intel SDM volume 2, SAL/SAR/SHL/SHR).
-use Rattle.std.specs.Prelude.{ℕ, ◌+◌, ◌-◌, ◌*◌, ◌/◌, ◌%◌, ◌^◌, pos, Bool, true, false, ◌==◌}
+use Rattle.std.specs.Prelude.{ℕ, ◌-◌, ◌*◌, ◌/◌, ◌%◌, ◌^◌, pos, Bool, false, ◌==◌}
 use Rattle.std.specs.Int.{int_div_euclid}
 use Rattle.word_arith.specs.Bits.{differ, top_bit}
 use Rattle.word_arith.specs.Signed.{signed, low_bits}

@@ -1,5 +1,6 @@
 ghost use Rattle.std.specs.Prelude.{◌≡◌, ℕ, ◌/◌, ◌<◌, ◌≢◌};
 ghost use Rattle.alu_width.specs.Conditions.{condition};
+ghost use Rattle.alu_width.specs.Comparisons.{Comparisons};
 
 use crate::flags::Flags;
 
@@ -23,3 +24,9 @@ pub fn cond(code: u8, flags: Flags) -> bool
     };
     even != (code % 2 == 1)
 }
+
+/// The law of comparisons: after CMP the conditions B, E and BE order the words without sign, and L and LE what
+/// they mean. It computes nothing.
+pub fn comparisons()
+    ensures { Comparisons }
+{}

@@ -16,7 +16,7 @@ mod tests;
 mod turns;
 mod words;
 
-pub use conditions::cond;
+pub use conditions::{comparisons, cond};
 pub use effects::{shift_effects_by_cl, turn_effects_by_cl};
 pub use flags::{Flags, Outcome};
 pub use operations::{DivFault, Logic, Product, Quotient, Rotate, Shift};

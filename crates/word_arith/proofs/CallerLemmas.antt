@@ -26,6 +26,8 @@ pub use Rattle.word_arith.proofs.ExtendLemmas.{floor_is, sar_is, sar_extended}
 -- fields, and words with a field replaced
 pub use Rattle.word_arith.proofs.FieldLemmas.{bit_at-field, word_parts, insert_parts, field-insert, insert-field, insert_below, insert_by_shifts, insert_by_mask, without_by_mask}
 pub use Rattle.word_arith.proofs.FieldLemmas.{bit_at-insert_below, bit_at-insert_inside, bit_at-insert_above}
+-- masks
+pub use Rattle.word_arith.proofs.MaskLemmas.{low_by_mask, field_by_mask, ones_shifted, not_by_xor}
 -- turns
 pub use Rattle.word_arith.proofs.TurnLemmas.{turn_left_below, turn_left_parts, turn_left_by_shifts, turn_left_by_right, turn_left-zero, bit_at-turn_left_low, bit_at-turn_left_high}
 -- products

@@ -8,6 +8,7 @@ pub mod FieldLemmas
 pub mod FlagLemmas
 pub mod LawLemmas
 pub mod LowBitsLemmas
+pub mod MaskLemmas
 pub mod OverflowLemmas
 pub mod ProductLemmas
 pub mod ShiftLemmas
