@@ -61,33 +61,41 @@ condition-odd m f =
 
 -- ---- the conditions as words, from the flags as words
 
+-- O is OF
 pub bit-condition_o : (f : Flags) → bit (condition 0 f) ≡ bit f.of
 unfolding condition
 bit-condition_o f = refl
 
+-- B is CF
 pub bit-condition_b : (f : Flags) → bit (condition 2 f) ≡ bit f.cf
 unfolding condition
 bit-condition_b f = refl
 
+-- E is ZF
 pub bit-condition_e : (f : Flags) → bit (condition 4 f) ≡ bit f.zf
 unfolding condition
 bit-condition_e f = refl
 
+-- BE is CF or ZF
 pub bit-condition_be : (f : Flags) → bit (condition 6 f) ≡ bit_or (bit f.cf) (bit f.zf)
 unfolding condition
 bit-condition_be f = bit-or f.cf f.zf
 
+-- S is SF
 pub bit-condition_s : (f : Flags) → bit (condition 8 f) ≡ bit f.sf
 unfolding condition
 bit-condition_s f = refl
 
+-- L is that SF differs from OF
 pub bit-condition_l : (f : Flags) → bit (condition 12 f) ≡ bit_xor (bit f.sf) (bit f.of)
 unfolding condition
 bit-condition_l f = bit-differ f.sf f.of
 
+-- LE is ZF, or that SF differs from OF
 pub bit-condition_le : (f : Flags) → bit (condition 14 f) ≡ bit_or (bit f.zf) (bit_xor (bit f.sf) (bit f.of))
 unfolding condition
 bit-condition_le f = bit-or f.zf (differ f.sf f.of) ∙ ap (λ m. bit_or (bit f.zf) m) (bit-differ f.sf f.of)
 
+-- an odd code is the opposite, by `^ 1`
 pub bit-condition-odd : (m : ℕ) (f : Flags) → bit (condition (2 * m + 1) f) ≡ bit_xor (bit (condition (2 * m) f)) 1
 bit-condition-odd m f = ap bit (condition-odd m f) ∙ bit-not (condition (2 * m) f)

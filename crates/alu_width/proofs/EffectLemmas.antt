@@ -32,6 +32,7 @@ row none one carries =
     else (if carries then effects Defined Defined Defined Undefined
     else effects Undefined Defined Defined Undefined))
 
+-- no count undefines ZF
 row_zf : (none one carries : Bool) → (row none one carries).zf ≢ Undefined
 unfolding row
 row_zf true one carries = λ e. cc
@@ -39,6 +40,7 @@ row_zf false true carries = λ e. cc
 row_zf false false true = λ e. cc
 row_zf false false false = λ e. cc
 
+-- no count undefines SF
 row_sf : (none one carries : Bool) → (row none one carries).sf ≢ Undefined
 unfolding row
 row_sf true one carries = λ e. cc
@@ -46,6 +48,7 @@ row_sf false true carries = λ e. cc
 row_sf false false true = λ e. cc
 row_sf false false false = λ e. cc
 
+-- no count that leaves a carry undefines CF
 row_cf : (none one carries : Bool) → carries ≡ true → (row none one carries).cf ≢ Undefined
 unfolding row
 row_cf true one carries t = λ e. cc
@@ -53,6 +56,7 @@ row_cf false true carries t = λ e. cc
 row_cf false false true t = λ e. cc
 row_cf false false false t = λ e. cc
 
+-- a count over 1 undefines OF
 row_of : (carries : Bool) → (row false false carries).of ≡ Undefined
 unfolding row
 row_of true = refl
@@ -66,10 +70,11 @@ carry_union op W start all =
     kept_union (λ count. (shift_effects op W (masked W count)).cf) (rw start)
     (λ count. row_cf (masked W count == 0) (masked W count == 1) (is_sar op || nat_lt (masked W count) W) (all count))
 
--- the masked counts 0 and 2
+-- the masked count of 0
 start_of : (W : ℕ) → IsWidth W → masked W 0 ≡ 0
 start_of W w = grind arith
 
+-- the masked count of 2
 two_of : (W : ℕ) → IsWidth W → masked W 2 ≡ 2
 two_of W w = grind arith
 
@@ -87,10 +92,11 @@ by_carry op W carry start two union = record {
   of = undefined_union (λ count. (shift_effects op W (masked W count)).of) 2 (lit< tt) (rw two (row_of (is_sar op || nat_lt 2 W)));
 }
 
--- every masked count is below a width of 32 or 64 bits
+-- every masked count is below 32 bits
 below_32 : (count : ℕ) → nat_lt (masked 32 count) 32 ≡ true
 below_32 count = grind (arith, nat_tests)
 
+-- every masked count is below 64 bits
 below_64 : (count : ℕ) → nat_lt (masked 64 count) 64 ≡ true
 below_64 count = grind (arith, nat_tests)
 
@@ -119,16 +125,19 @@ shifts_by_cl Shr W w = elim w [
 shifts_by_cl Sar W w =
     by_carry Sar W Kept (start_of W w) (two_of W w) (carry_union Sar W (start_of W w) (λ count. refl))
 
+-- no count of a rotate undefines ZF
 turn_zf : (none one : Bool) → (if none then effects Kept Kept Kept Kept else (if one then effects Defined Kept Kept Defined else effects Defined Kept Kept Undefined)).zf ≢ Undefined
 turn_zf true one = λ e. cc
 turn_zf false true = λ e. cc
 turn_zf false false = λ e. cc
 
+-- no count of a rotate undefines SF
 turn_sf : (none one : Bool) → (if none then effects Kept Kept Kept Kept else (if one then effects Defined Kept Kept Defined else effects Defined Kept Kept Undefined)).sf ≢ Undefined
 turn_sf true one = λ e. cc
 turn_sf false true = λ e. cc
 turn_sf false false = λ e. cc
 
+-- no count of a rotate undefines CF
 turn_cf : (none one : Bool) → (if none then effects Kept Kept Kept Kept else (if one then effects Defined Kept Kept Defined else effects Defined Kept Kept Undefined)).cf ≢ Undefined
 turn_cf true one = λ e. cc
 turn_cf false true = λ e. cc

@@ -123,11 +123,12 @@ pub low_imul : (W a b : ℕ) → a < 2 ^ W → b < 2 ^ W → (product true W a b
 unfolding product
 low_imul W a b p q = product_low (2 * W) W a b (omega arith) p q
 
--- at 64 bits the high halves are what UMULH and SMULH give
+-- at 64 bits MUL's high half is what UMULH gives
 pub high_mul : (a b : ℕ) → (product false 64 a b).high ≡ umulh a b
 unfolding product
 high_mul a b = refl
 
+-- at 64 bits IMUL's high half is what SMULH gives
 pub high_imul : (a b : ℕ) → (product true 64 a b).high ≡ smulh a b
 unfolding product smulh
 high_imul a b = refl

@@ -36,10 +36,11 @@ shifted-zero Shl W a p = let e : a * 1 ≡ a = omega arith in rw e (mod_small a 
 shifted-zero Shr W a p = div-one a
 shifted-zero Sar W a p = ap (λ z. low_bits W z) (over_one (signed W a)) ∙ low_bits_signed W a p
 
--- a count over 1 is neither 0 nor 1
+-- a count over 1 is not 0
 not_zero : (n : ℕ) → 1 < n → (n == 0) ≡ false
 not_zero n h = grind (arith, nat_tests)
 
+-- nor 1
 not_one : (n : ℕ) → 1 < n → (n == 1) ≡ false
 not_one n h = grind (arith, nat_tests)
 
@@ -91,7 +92,7 @@ pub last_out_sar : (W a n : ℕ) → IsWidth W → a < 2 ^ W →
     bit (last_out Sar W a n) ≡ low_bits 64 (int_div_euclid (signed 64 (sign_extend 64 W a)) (pos (2 ^ (n - 1)))) % 2
 last_out_sar W a n w p =
     let x : ℕ = low_bits 64 (int_div_euclid (signed 64 (sign_extend 64 W a)) (pos (2 ^ (n - 1)))) in
-    bit_of_parity (shifted Sar W a (n - 1)) ∙ ap (λ m. m % 2) (sym (sar_extended W a (n - 1) w p)) ∙ mod_mod x W 1 (grind arith)
+    bit_of_parity (shifted Sar W a (n - 1)) ∙ ap (λ m. m % 2) (sym (sar_extended 64 W a (n - 1) (grind arith) (grind arith) p)) ∙ mod_mod x W 1 (grind arith)
 
 -- ---- values by words of 64 bits
 
@@ -102,18 +103,21 @@ shl_by_words W a n w = sum_cut W (a * 2 ^ n) w
 -- SAR by a shift of the extension to 64 bits, cut
 pub sar_by_words : (W a n : ℕ) → IsWidth W → a < 2 ^ W →
     low_bits 64 (int_div_euclid (signed 64 (sign_extend 64 W a)) (pos (2 ^ n))) % 2 ^ W ≡ shifted Sar W a n
-sar_by_words W a n w p = sar_extended W a n w p
+sar_by_words W a n w p = sar_extended 64 W a n (grind arith) (grind arith) p
 
--- at the words' own width, a count modulo w is what LSLV, LSRV, ASRV and RORV take
+-- SHL by a count modulo the words' own width is LSLV
 pub shifted-shl_is_lslv : (w n k : ℕ) → shifted Shl w n (k % w) ≡ lslv w n k
 shifted-shl_is_lslv w n k = refl
 
+-- SHR is LSRV
 pub shifted-shr_is_lsrv : (w n k : ℕ) → shifted Shr w n (k % w) ≡ lsrv w n k
 shifted-shr_is_lsrv w n k = refl
 
+-- SAR is ASRV
 pub shifted-sar_is_asrv : (w n k : ℕ) → shifted Sar w n (k % w) ≡ asrv w n k
 shifted-sar_is_asrv w n k = refl
 
+-- ROR is RORV
 pub turned-ror_is_rorv : (w n k : ℕ) → turned Ror w n (k % w) ≡ rorv w n k
 turned-ror_is_rorv w n k = refl
 

@@ -18,6 +18,7 @@ pub record Effects : Type 0 where
   pub sf : Effect
   pub of : Effect
 
+-- a row of the table: what becomes of CF, ZF, SF and OF
 abbrev pub effects : (carry zero_flag sign overflow : Effect) → Effects
 effects carry zero_flag sign overflow = record { cf = carry; zf = zero_flag; sf = sign; of = overflow }
 
@@ -43,6 +44,7 @@ product_effects = effects Defined Undefined Undefined Defined
 abbrev pub quotient_effects : Effects
 quotient_effects = effects Undefined Undefined Undefined Undefined
 
+-- whether the carry of a shift is defined at every count
 abbrev pub is_sar : Shift → Bool
 is_sar Shl = false
 is_sar Shr = false

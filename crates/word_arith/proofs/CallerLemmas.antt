@@ -13,12 +13,12 @@ pub use Rattle.word_arith.proofs.FlagLemmas.{bit_below, bit_is_zero, bit-not, bi
 -- the top bit, by a shift
 pub use Rattle.word_arith.proofs.BitLemmas.{top_bit_is, top_bit_shr, top_and_xor, pow_half}
 -- what a word means, and the word of a meaning
-pub use Rattle.word_arith.proofs.SignedLemmas.{signed_low_bits, signed_extend, signed_double, signed_fits, signed_not_zero}
+pub use Rattle.word_arith.proofs.SignedLemmas.{signed_low_bits, signed_fits, signed_not_zero}
 pub use Rattle.word_arith.proofs.ExtendLemmas.{signed_is, low_bits_signed}
 -- low bits through sums, differences, products and cuts
 pub use Rattle.word_arith.proofs.LowBitsLemmas.{low_bits_is, low_bits_pos, low_bits_below, low_bits_same, low_bits_read, low_bits-add, low_bits-sub, low_bits-mul, low_bits-mod}
 -- extension by the sign
-pub use Rattle.word_arith.proofs.ExtendLemmas.{sign_extend_is, sign_extend_parts, sign_extend_below, sign_fill, bit_at-sign_extend_low, bit_at-sign_extend_high}
+pub use Rattle.word_arith.proofs.ExtendLemmas.{signed_extend, top_bit-sign_extend, sign_extend_is, sign_extend_parts, sign_extend_below, sign_fill, bit_at-sign_extend_low, bit_at-sign_extend_high}
 -- shifts to the left and by zeros
 pub use Rattle.word_arith.proofs.ShiftLemmas.{pow_split, shl_mod, mod_mod, mod_small}
 -- shifts by the sign

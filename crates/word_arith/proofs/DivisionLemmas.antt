@@ -8,7 +8,7 @@ use Rattle.word_arith.specs.Width.{IsWidth}
 use Rattle.word_arith.specs.Signed.{signed, fits_signed, low_bits, sign_extend}
 use Rattle.word_arith.specs.ArmWords.{msub, sdiv}
 use Rattle.word_arith.proofs.LowBitsLemmas.{low_bits-sub, low_bits-mul, low_bits-mod}
-use Rattle.word_arith.proofs.SignedLemmas.{signed_extend}
+use Rattle.word_arith.proofs.ExtendLemmas.{signed_extend}
 use Rattle.word_arith.proofs.ShiftLemmas.{mod_small}
 use Rattle.std.proofs.lemmas.Nat.{mod_low}
 use Rattle.word_arith.proofs.OverflowLemmas.{range_by_extension}
@@ -47,7 +47,7 @@ pub sdiv_of_extended : (V W n d : ℕ) → IsWidth V → IsWidth W → n < 2 ^ V
     sdiv 64 (sign_extend 64 V n) (sign_extend 64 W d) ≡ low_bits 64 (int_div (signed V n) (signed W d))
 unfolding sdiv
 sdiv_of_extended V W n d v w p q some =
-    rw (extended_not_zero W d w q some, signed_extend V n v p, signed_extend W d w q)
+    rw (extended_not_zero W d w q some, signed_extend 64 V n (grind arith) (grind arith) p, signed_extend 64 W d (grind arith) (grind arith) q)
 
 -- whether a quotient fits below 64 bits, from its 64 low bits alone; right also where SDIV gives the least number by -1 back
 pub quotient_range : (V W n d : ℕ) → IsWidth V → IsWidth W → W < 64 → n < 2 ^ V →

@@ -1,8 +1,9 @@
 -- Extension by the sign, and division by a power of two that rounds down, at any width.
-use Rattle.std.proofs.Common.{◌≡◌, ℕ, ◌+◌, ◌-◌, ◌*◌, ◌/◌, ◌%◌, ◌^◌, ◌<◌, ◌≤◌, Bool, true, false, arith, ap, ◌∙◌}
+use Rattle.std.proofs.Common.{◌≡◌, ℕ, ◌+◌, ◌-◌, ◌*◌, ◌/◌, ◌%◌, ◌^◌, ◌<◌, ◌≤◌, Bool, true, false, arith, ap, ◌∙◌, inl, inr, sym}
 use Rattle.std.specs.Prelude.{ℤ, pos, negsuc, ◌+ℤ◌, ◌-ℤ◌, nat_le, if◌then◌else◌}
 use Rattle.std.specs.Int.{int_div_euclid, bit_at}
-use Rattle.std.proofs.lemmas.Bool.Decides.{nat_tests}
+use Rattle.std.proofs.lemmas.Bool.{le-leb, lt-leb}
+use Rattle.std.proofs.lemmas.Bool.Decides.{nat_tests, leb_tells}
 use Rattle.std.proofs.lemmas.Nat.Bits.{bit_at_cat_low, bit_at_cat_high, bit_at_ones, bit_at-zero}
 use Rattle.std.proofs.lemmas.Int.{ints}
 use Rattle.std.proofs.lemmas.Nat.{pow_pos, pow-add, shr_split, shr_high, shr_below, mod_below}
@@ -10,9 +11,9 @@ use Rattle.std.proofs.Math.Nat.{lt_of_mul-lt-mul_right, pow-le-pow_right}
 use Rattle.word_arith.specs.Width.{IsWidth}
 use Rattle.word_arith.specs.Bits.{bit, top_bit}
 use Rattle.word_arith.specs.Signed.{signed, low_bits, sign_extend}
+use Rattle.word_arith.proofs.BitLemmas.{pow_half}
 use Rattle.word_arith.proofs.LowBitsLemmas.{low_bits_is, low_bits_below, low_bits-mod}
 use Rattle.word_arith.proofs.ShiftLemmas.{pow_split, mod_small}
-use Rattle.word_arith.proofs.SignedLemmas.{signed_extend}
 
 -- a choice by a flag as a product with it
 chosen : (b : Bool) (a m : ℕ) → (if b then pos a -ℤ pos m else pos a) ≡ pos a -ℤ pos (bit b * m)
@@ -89,12 +90,40 @@ sar_is W a k p =
     ∙ low_bits_is W (pos (E / 2 ^ k) -ℤ pos (b * 2 ^ W)) b (E / 2 ^ k) (omega (arith, ints))
     ∙ mod_small (E / 2 ^ k) W small
 
--- a shift to the right by the sign is that of the extension to 64 bits, cut
-pub sar_extended : (W a k : ℕ) → IsWidth W → a < 2 ^ W →
-    low_bits 64 (int_div_euclid (signed 64 (sign_extend 64 W a)) (pos (2 ^ k))) % 2 ^ W ≡ low_bits W (int_div_euclid (signed W a) (pos (2 ^ k)))
-sar_extended W a k w p =
-    ap (λ z. low_bits 64 (int_div_euclid z (pos (2 ^ k))) % 2 ^ W) (signed_extend W a w p)
-    ∙ low_bits-mod 64 W (int_div_euclid (signed W a) (pos (2 ^ k))) (grind arith)
+-- an extension keeps the top bit
+pub top_bit-sign_extend : (V W a : ℕ) → 0 < W → W ≤ V → a < 2 ^ W → top_bit V (sign_extend V W a) ≡ top_bit W a
+unfolding top_bit
+top_bit-sign_extend V W a some h p =
+    let long = sign_extend_is V W a h p in
+    let half = pow_half W some in
+    let half_long = pow_half V (omega arith) in
+    let less : 2 ^ (W - 1) ≤ 2 ^ (V - 1) = pow-le-pow_right {n = 2} (omega arith) (omega arith) in
+    let gap : ℕ = 2 ^ V - 2 ^ W in
+    elim (leb_tells (2 ^ (W - 1)) a) [
+      | inl w ↦
+          let set : bit (top_bit W a) * gap ≡ 1 * gap = ap (λ t. bit t * gap) w.0 in
+          le-leb (2 ^ (V - 1)) (sign_extend V W a) (omega (arith, long, set, half, half_long, less, w.1)) ∙ sym w.0
+      | inr w ↦
+          let clear : bit (top_bit W a) * gap ≡ 0 * gap = ap (λ t. bit t * gap) w.0 in
+          lt-leb (2 ^ (V - 1)) (sign_extend V W a) (omega (arith, long, clear, less, w.1)) ∙ sym w.0
+    ]
+
+-- an extension means the same
+pub signed_extend : (V W a : ℕ) → 0 < W → W ≤ V → a < 2 ^ W → signed V (sign_extend V W a) ≡ signed W a
+signed_extend V W a some h p =
+    let b : ℕ = bit (top_bit W a) in
+    let same : bit (top_bit V (sign_extend V W a)) * 2 ^ V ≡ b * 2 ^ V = ap (λ t. bit t * 2 ^ V) (top_bit-sign_extend V W a some h p) in
+    let wide : 2 ^ W ≤ 2 ^ V = pow-le-pow_right {n = 2} (omega arith) h in
+    let cut : 2 ^ V ≡ 2 ^ V - 2 ^ W + 2 ^ W = omega arith in
+    let split : b * 2 ^ V ≡ b * (2 ^ V - 2 ^ W) + b * 2 ^ W = omega (arith, ap (λ n. b * n) cut) in
+    omega (arith, ints, signed_is V (sign_extend V W a), signed_is W a, sign_extend_is V W a h p, same, split)
+
+-- a shift to the right by the sign is that of an extension, cut
+pub sar_extended : (V W a k : ℕ) → 0 < W → W ≤ V → a < 2 ^ W →
+    low_bits V (int_div_euclid (signed V (sign_extend V W a)) (pos (2 ^ k))) % 2 ^ W ≡ low_bits W (int_div_euclid (signed W a) (pos (2 ^ k)))
+sar_extended V W a k some h p =
+    ap (λ z. low_bits V (int_div_euclid z (pos (2 ^ k))) % 2 ^ W) (signed_extend V W a some h p)
+    ∙ low_bits-mod V W (int_div_euclid (signed W a) (pos (2 ^ k))) h
 
 -- a shift to the right by the sign by W - 1 fills the word with the sign
 pub sign_fill : (W a : ℕ) → IsWidth W → a < 2 ^ W →

@@ -9,7 +9,7 @@ use Rattle.word_arith.specs.Turns.{turn_left}
 use Rattle.word_arith.specs.Width.{IsWidth}
 use Rattle.word_arith.proofs.SignedLemmas.{signed_low_bits, signed_fits}
 use Rattle.word_arith.proofs.LowBitsLemmas.{low_bits_below}
-use Rattle.word_arith.proofs.ExtendLemmas.{low_bits_signed, bit_at-sign_extend_low, bit_at-sign_extend_high}
+use Rattle.word_arith.proofs.ExtendLemmas.{signed_extend, sign_extend_below, low_bits_signed, bit_at-sign_extend_low, bit_at-sign_extend_high}
 use Rattle.word_arith.proofs.FieldLemmas.{bit_at-insert_inside, bit_at-insert_below, bit_at-insert_above, bit_at-field}
 use Rattle.word_arith.proofs.TurnLemmas.{turn_left_below, bit_at-turn_left_low, bit_at-turn_left_high}
 
@@ -22,9 +22,11 @@ twos_complement_holds W w = record {
   meaning_of_word = λ z f. signed_low_bits W z w f;
 }
 
--- an extension copies the top bit
-pub extends_holds : (V W a : ℕ) → W ≤ V → a < 2 ^ W → Extends V W a
-extends_holds V W a h p = record {
+-- an extension means the same and copies the top bit
+pub extends_holds : (V W a : ℕ) → 0 < W → W ≤ V → a < 2 ^ W → Extends V W a
+extends_holds V W a some h p = record {
+  is_word = sign_extend_below V W a;
+  means_the_same = signed_extend V W a some h p;
   kept = λ i low. bit_at-sign_extend_low V W a i h p low;
   copied = λ i high below. bit_at-sign_extend_high V W a i p high below;
 }

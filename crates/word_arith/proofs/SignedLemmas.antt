@@ -1,25 +1,15 @@
 -- What words mean in two's complement.
-use Rattle.std.proofs.Common.{◌≡◌, ℕ, ◌*◌, ◌^◌, ◌<◌, ◌≢◌, arith, true}
+use Rattle.std.proofs.Common.{◌≡◌, ℕ, ◌^◌, ◌<◌, ◌≢◌, arith, true}
 use Rattle.std.specs.Prelude.{ℤ, pos}
 use Rattle.std.proofs.lemmas.Int.{ints}
 use Rattle.std.proofs.lemmas.Bool.Decides.{nat_tests}
 use Rattle.word_arith.specs.Width.{IsWidth}
-use Rattle.word_arith.specs.Signed.{signed, fits_signed, low_bits, sign_extend}
+use Rattle.word_arith.specs.Signed.{signed, fits_signed, low_bits}
 
 -- the word of a number that fits means that number
 pub signed_low_bits : (W : ℕ) (z : ℤ) → IsWidth W → fits_signed W z ≡ true → signed W (low_bits W z) ≡ z
 unfolding signed fits_signed low_bits
 signed_low_bits W z w fits = grind (arith, nat_tests, ints)
-
--- a word's extension to 64 bits means the same
-pub signed_extend : (W a : ℕ) → IsWidth W → a < 2 ^ W → signed 64 (sign_extend 64 W a) ≡ signed W a
-unfolding signed low_bits
-signed_extend W a w p = grind (arith, nat_tests, ints)
-
--- a word's extension to twice its bits means the same
-pub signed_double : (W a : ℕ) → IsWidth W → a < 2 ^ W → signed (2 * W) (sign_extend (2 * W) W a) ≡ signed W a
-unfolding signed low_bits
-signed_double W a w p = grind (arith, nat_tests, ints)
 
 -- what a word means fits
 pub signed_fits : (W a : ℕ) → IsWidth W → a < 2 ^ W → fits_signed W (signed W a) ≡ true

@@ -28,7 +28,9 @@ pub record Turns (W a k : ℕ) : Type 0 where
   pub is_word : turn_left W a k < 2 ^ W
   pub moves : (i : ℕ) → i < W → bit_at (turn_left W a k) ((i + k) % W) ≡ bit_at a i
 
--- V bits extend W bits by the sign: the word's bits are there, and each new one is its top bit
+-- V bits extend W bits by the sign: they mean the same, the word's bits are there, and each new one is its top bit
 pub record Extends (V W a : ℕ) : Type 0 where
+  pub is_word : sign_extend V W a < 2 ^ V
+  pub means_the_same : signed V (sign_extend V W a) ≡ signed W a
   pub kept : (i : ℕ) → i < W → bit_at (sign_extend V W a) i ≡ bit_at a i
   pub copied : (i : ℕ) → W ≤ i → i < V → bit_at (sign_extend V W a) i ≡ bit (top_bit W a)

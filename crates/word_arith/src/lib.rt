@@ -13,10 +13,10 @@ pub fn twos_complement()
     ensures { (W : ℕ) → IsWidth W → TwosComplement W }
 {}
 
-/// The law of extension: the word's bits stay, and each new bit is its top bit. It computes nothing.
+/// The law of extension: it means the same, the word's bits stay, and each new bit is its top bit. It computes nothing.
 #[tactic(auto, using(crate::proofs::LawLemmas::extends_holds))]
 pub fn extension()
-    ensures { (V W a : ℕ) → W ≤ V → a < 2 ^ W → Extends V W a }
+    ensures { (V W a : ℕ) → 0 < W → W ≤ V → a < 2 ^ W → Extends V W a }
 {}
 
 /// The law of fields: a field has just the bits that it names. It computes nothing.
