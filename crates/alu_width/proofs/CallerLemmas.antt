@@ -3,7 +3,7 @@
 -- sums and differences by words of 64 bits
 pub use Rattle.alu_width.proofs.LiftLemmas.{IsWords, add_by_words, adc_by_words, sub_by_words, sbb_by_words}
 -- products by words of 64 bits
-pub use Rattle.alu_width.proofs.LiftLemmas.{over_mul, over_imul, low_imul, high_mul, high_imul}
+pub use Rattle.alu_width.proofs.LiftLemmas.{mul_by_words, imul_by_words, over_mul, over_imul, over_mul-is, over_imul-is, low_imul, high_mul, high_imul}
 -- divisions of at most 64 bits by words of 64 bits
 pub use Rattle.alu_width.proofs.LiftLemmas.{idiv_by_sdiv, div_by_udiv}
 pub use Rattle.alu_width.proofs.QuotientLemmas.{quotient_signed}

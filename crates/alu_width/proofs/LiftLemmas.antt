@@ -2,17 +2,18 @@
 use Rattle.std.proofs.Common.{◌≡◌, ◌≢◌, ℕ, ◌+◌, ◌-◌, ◌*◌, ◌/◌, ◌%◌, ◌^◌, ◌<◌, true, false, arith, refl, ap, sym, ◌∙◌, lit<}
 use Rattle.std.specs.Prelude.{ℤ, ◌*ℤ◌, nat_lt, nat_le, ◌==◌, not, ◌&&◌, bit_and, bit_xor, int_div, int_rem, if◌then◌else◌, Result, Ok, Err}
 use Rattle.std.proofs.lemmas.Bool.Decides.{nat_tests}
-use Rattle.std.proofs.lemmas.Nat.{pow_pos, mod_below}
+use Rattle.std.proofs.lemmas.Nat.{pow_pos, mod_below, field_of}
 use Rattle.word_arith.specs.Width.{IsWidth}
 use Rattle.word_arith.specs.Bits.{bit, differ, top_bit}
 use Rattle.word_arith.specs.Signed.{signed, low_bits, fits_signed, sign_extend}
 use Rattle.word_arith.specs.ArmWords.{msub, sdiv, udiv, smulh, umulh}
 use Rattle.word_arith.proofs.BitLemmas.{top_bit_is, top_and_xor}
 use Rattle.word_arith.proofs.CarryLemmas.{carry_below, carry_at_most, borrow_at_most, sum_cut, difference_cut, difference_cut_borrow}
-use Rattle.word_arith.proofs.OverflowLemmas.{sum_overflow, difference_overflow, over_plain, over_signed}
+use Rattle.word_arith.proofs.OverflowLemmas.{range_by_half, sum_overflow, difference_overflow, over_plain, over_signed}
 use Rattle.word_arith.proofs.DivisionLemmas.{sdiv_of_extended, quotient_range, remainder_in_64, plain_remainder_by_msub, plain_range}
 use Rattle.word_arith.proofs.LowBitsLemmas.{low_bits-mod, low_bits_below}
-use Rattle.word_arith.proofs.ProductLemmas.{product_low}
+use Rattle.word_arith.proofs.ProductLemmas.{product_low, product_below, product_in_64, product_within}
+use Rattle.word_arith.proofs.ShiftLemmas.{mod_mod, mod_small}
 use Rattle.alu_width.specs.declared.flags.Outcome.{Outcome}
 use Rattle.alu_width.specs.declared.operations.Quotient.{Quotient}
 use Rattle.alu_width.specs.declared.operations.DivFault.{DivFault}
@@ -106,6 +107,10 @@ sbb_by_words W a b r w p q is_r =
           ∙ sym (top_and_xor W a b a r (positive W w) p q p word);
     }
 
+-- a number is more than its low half where it does not fit
+whole_is_low : (W n : ℕ) → IsWidth W → not (n == n % 2 ^ W) ≡ nat_le (2 ^ W) n
+whole_is_low W n w = grind (arith, nat_tests)
+
 -- MUL's `over` is that its high half is not 0
 pub over_mul : (W a b : ℕ) → IsWidth W → (product false W a b).over ≡ not ((product false W a b).high == 0)
 unfolding product
@@ -117,6 +122,19 @@ pub over_imul : (W a b : ℕ) → IsWidth W →
 unfolding product
 over_imul W a b w =
     ap not (over_signed W (low_bits (2 * W) (signed W a *ℤ signed W b)) w (low_bits_below (2 * W) (signed W a *ℤ signed W b)))
+
+-- MUL's `over` is that the product does not fit W bits
+pub over_mul-is : (W a b : ℕ) → IsWidth W → (product false W a b).over ≡ nat_le (2 ^ W) (a * b)
+unfolding product
+over_mul-is W a b w = whole_is_low W (a * b) w
+
+-- IMUL's `over` is that the product of what the operands mean does not fit W bits with sign
+pub over_imul-is : (W a b : ℕ) → IsWidth W → a < 2 ^ W → b < 2 ^ W →
+    (product true W a b).over ≡ not (fits_signed W (signed W a *ℤ signed W b))
+unfolding product
+over_imul-is W a b w p q =
+    let near = product_within W a b w p q in
+    ap not (range_by_half W (signed W a *ℤ signed W b) w near.0 near.1)
 
 -- IMUL's low half is MUL's
 pub low_imul : (W a b : ℕ) → a < 2 ^ W → b < 2 ^ W → (product true W a b).low ≡ a * b % 2 ^ W
@@ -132,6 +150,27 @@ high_mul a b = refl
 pub high_imul : (a b : ℕ) → (product true 64 a b).high ≡ smulh a b
 unfolding product smulh
 high_imul a b = refl
+
+-- below 64 bits MUL by a product in 64 bits
+pub mul_by_words : (W a b p : ℕ) → IsWidth W → W < 64 → a < 2 ^ W → b < 2 ^ W → p ≡ a * b % 2 ^ 64 →
+    ((product false W a b).low ≡ p % 2 ^ W) × ((product false W a b).high ≡ p / 2 ^ W)
+unfolding product
+mul_by_words W a b p w small q r is_p =
+    let below : a * b < 2 ^ (2 * W) = product_below W a b q r in
+    let fits : a * b < 2 ^ 64 = grind arith in
+    let whole : a * b ≡ p = sym (mod_small (a * b) 64 fits) ∙ sym is_p in
+    (ap (λ m. m % 2 ^ W) whole, ap (λ m. m / 2 ^ W) whole)
+
+-- below 64 bits IMUL by a product in 64 bits of the extensions
+pub imul_by_words : (W a b p : ℕ) → IsWidth W → W < 64 → p ≡ sign_extend 64 W a * sign_extend 64 W b % 2 ^ 64 →
+    ((product true W a b).low ≡ p % 2 ^ W) × ((product true W a b).high ≡ p / 2 ^ W % 2 ^ W)
+unfolding product
+imul_by_words W a b p w small is_p =
+    let e : 2 * W ≡ W + W = omega arith in
+    let whole : low_bits (2 * W) (signed W a *ℤ signed W b) ≡ p % 2 ^ (2 * W) =
+        sym (product_in_64 (2 * W) W a b (grind arith)) ∙ ap (λ m. m % 2 ^ (2 * W)) (sym is_p) in
+    (ap (λ m. m % 2 ^ W) whole ∙ mod_mod p (2 * W) W (omega arith),
+     ap (λ m. m / 2 ^ W) whole ∙ ap (λ m. p % 2 ^ m / 2 ^ W) e ∙ field_of p W W)
 
 -- the answer of a division
 abbrev answer : (x y : ℕ) → Result Quotient DivFault

@@ -3,6 +3,7 @@ pub mod Comparisons
 pub mod Conditions
 pub mod Effects
 pub mod Masked
+pub mod Overs
 pub mod Products
 pub mod Quotients
 pub mod Shifts

@@ -20,4 +20,5 @@ pub use conditions::{comparisons, cond};
 pub use effects::{shift_effects_by_cl, turn_effects_by_cl};
 pub use flags::{Flags, Outcome};
 pub use operations::{DivFault, Logic, Product, Quotient, Rotate, Shift};
+pub use products::products_over;
 pub use words::Alu;

@@ -2,6 +2,7 @@ ghost use Rattle.std.specs.Prelude.{◌≡◌, ℕ, ◌+◌, ◌*◌, ◌^◌, �
 ghost use Rattle.word_arith.specs.Width.{IsWidth};
 ghost use Rattle.word_arith.specs.Signed.{signed, low_bits, extended};
 ghost use Rattle.alu_width.specs.Products.{double_product, product};
+ghost use Rattle.alu_width.specs.Overs.{ProductsOver};
 
 use crate::operations::Product;
 use crate::words::Alu;
@@ -74,3 +75,9 @@ impl<const W: u32> Alu<W> {
         u128::MAX >> (128 - 2 * W)
     }
 }
+
+/// The law of products: `over` says that the product does not fit W bits, without sign for MUL and with sign for
+/// IMUL. It computes nothing.
+pub fn products_over()
+    ensures { ProductsOver }
+{}

@@ -7,7 +7,7 @@ pub use Rattle.word_arith.proofs.CarryLemmas.{sum_cut, difference_cut, differenc
 -- signed overflow by top bits, and orders with sign by it
 pub use Rattle.word_arith.proofs.OverflowLemmas.{sum_overflow, difference_overflow, less_by_overflow, at_most_by_overflow}
 -- whether a number fits W bits, and a double product is more than its low half
-pub use Rattle.word_arith.proofs.OverflowLemmas.{range_by_extension, over_plain, over_signed}
+pub use Rattle.word_arith.proofs.OverflowLemmas.{range_by_extension, range_by_half, over_plain, over_signed}
 -- flags as numbers
 pub use Rattle.word_arith.proofs.FlagLemmas.{bit_below, bit_is_zero, bit-not, bit-and, bit-or, bit-differ}
 -- the top bit, by a shift
@@ -31,7 +31,7 @@ pub use Rattle.word_arith.proofs.MaskLemmas.{low_by_mask, field_by_mask, ones_sh
 -- turns
 pub use Rattle.word_arith.proofs.TurnLemmas.{turn_left_below, turn_left_parts, turn_left_by_shifts, turn_left_by_right, turn_left-zero, bit_at-turn_left_low, bit_at-turn_left_high}
 -- products
-pub use Rattle.word_arith.proofs.ProductLemmas.{product_low, product_of_extended, product_in_64}
+pub use Rattle.word_arith.proofs.ProductLemmas.{product_low, product_of_extended, product_in_64, product_below, product_within, signed_magnitude}
 -- quotients and remainders
 pub use Rattle.word_arith.proofs.DivisionLemmas.{remainder_is, remainder_by_msub, plain_remainder_by_msub, quotient_within, quotient_range, plain_range, sdiv_of_extended, remainder_in_64, signed_within}
 -- AArch64's moves of bit fields

@@ -1,5 +1,5 @@
 -- Signed overflow at the four widths, by the top bits of words; whether a number fits, and a product is more than its low half.
-use Rattle.std.proofs.Common.{◌≡◌, ℕ, ◌+◌, ◌-◌, ◌*◌, ◌/◌, ◌%◌, ◌^◌, ◌<◌, arith}
+use Rattle.std.proofs.Common.{◌≡◌, ℕ, ◌+◌, ◌-◌, ◌*◌, ◌/◌, ◌%◌, ◌^◌, ◌<◌, arith, inl, inr}
 use Rattle.std.specs.Prelude.{ℤ, pos, neg_ℤ, ◌+ℤ◌, ◌-ℤ◌, ◌≤ℤ◌, not, ◌&&◌, ◌||◌, ◌==◌, int_lt, int_le}
 use Rattle.std.proofs.lemmas.Int.{ints}
 use Rattle.std.proofs.lemmas.Bool.Decides.{nat_tests}
@@ -32,6 +32,46 @@ pub range_by_extension : (W : ℕ) (z : ℤ) → IsWidth W → W < 64 → neg_�
     fits_signed W z ≡ (low_bits 64 z == sign_extend 64 W (low_bits 64 z % 2 ^ W))
 unfolding signed fits_signed low_bits
 range_by_extension W z w small low high = grind (arith, nat_tests, ints)
+
+-- a number within 2 ^ (2 * W - 2) fits W bits where the extension of its low half is the whole
+abbrev IsRangeByHalf : ℕ → Type 0
+IsRangeByHalf W = (z : ℤ) → neg_ℤ (pos (2 ^ (2 * W - 2))) ≤ℤ z → z ≤ℤ pos (2 ^ (2 * W - 2)) →
+    (low_bits (2 * W) z == sign_extend (2 * W) W (low_bits (2 * W) z % 2 ^ W)) ≡ fits_signed W z
+
+-- so at 8 bits
+range_by_half_8 : IsRangeByHalf 8
+unfolding signed fits_signed low_bits
+range_by_half_8 z low high = grind (arith, nat_tests, ints)
+
+-- so at 16 bits
+range_by_half_16 : IsRangeByHalf 16
+unfolding signed fits_signed low_bits
+range_by_half_16 z low high = grind (arith, nat_tests, ints)
+
+-- so at 32 bits
+range_by_half_32 : IsRangeByHalf 32
+unfolding signed fits_signed low_bits
+range_by_half_32 z low high = grind (arith, nat_tests, ints)
+
+-- so at 64 bits
+range_by_half_64 : IsRangeByHalf 64
+unfolding signed fits_signed low_bits
+range_by_half_64 z low high = grind (arith, nat_tests, ints)
+
+-- so at each width
+half_range : (W : ℕ) → IsWidth W → IsRangeByHalf W
+half_range W w = elim w [
+      inl e ↦ rw e range_by_half_8
+    | inr v ↦ elim v [
+      inl e ↦ rw e range_by_half_16
+    | inr u ↦ elim u [
+      inl e ↦ rw e range_by_half_32
+    | inr e ↦ rw e range_by_half_64 ] ] ]
+
+-- whether a product of meanings fits W bits, by the extension of its low half
+pub range_by_half : (W : ℕ) (z : ℤ) → IsWidth W → neg_ℤ (pos (2 ^ (2 * W - 2))) ≤ℤ z → z ≤ℤ pos (2 ^ (2 * W - 2)) →
+    (low_bits (2 * W) z == sign_extend (2 * W) W (low_bits (2 * W) z % 2 ^ W)) ≡ fits_signed W z
+range_by_half W z w = half_range W w z
 
 -- a double product without sign is its low half where its high half is 0
 pub over_plain : (W p : ℕ) → IsWidth W → (p == p % 2 ^ W) ≡ (p / 2 ^ W == 0)

@@ -1,6 +1,10 @@
 -- Products with sign by products of words.
-use Rattle.std.proofs.Common.{◌≡◌, ℕ, ◌*◌, ◌%◌, ◌^◌, ◌<◌, ◌≤◌, ap, sym, ◌∙◌}
-use Rattle.std.specs.Prelude.{◌*ℤ◌}
+use Rattle.std.proofs.Common.{◌≡◌, ℕ, ◌*◌, ◌%◌, ◌^◌, ◌<◌, ◌≤◌, ap, sym, ◌∙◌, ◌+◌, ◌-◌, arith}
+use Rattle.std.specs.Prelude.{ℤ, pos, negsuc, neg_ℤ, ◌*ℤ◌, ◌≤ℤ◌, unsigned_abs}
+use Rattle.std.proofs.lemmas.Bool.Decides.{nat_tests}
+use Rattle.std.proofs.lemmas.Int.{ints, unsigned_abs-mul}
+use Rattle.std.proofs.lemmas.Nat.{pow-add, mul-lt, mul-le}
+use Rattle.word_arith.specs.Width.{IsWidth}
 use Rattle.word_arith.specs.Signed.{signed, low_bits, sign_extend}
 use Rattle.word_arith.proofs.ExtendLemmas.{low_bits_signed}
 use Rattle.word_arith.proofs.LowBitsLemmas.{low_bits-mod, low_bits-mul}
@@ -23,3 +27,29 @@ pub product_in_64 : (V W a b : ℕ) → V ≤ 64 →
     sign_extend 64 W a * sign_extend 64 W b % 2 ^ 64 % 2 ^ V ≡ low_bits V (signed W a *ℤ signed W b)
 product_in_64 V W a b h =
     ap (λ m. m % 2 ^ V) (sym (product_of_extended 64 W a b)) ∙ low_bits-mod 64 V (signed W a *ℤ signed W b) h
+
+-- a product of words fits twice the bits
+pub product_below : (W a b : ℕ) → a < 2 ^ W → b < 2 ^ W → a * b < 2 ^ (2 * W)
+product_below W a b p q =
+    let e : 2 * W ≡ W + W = omega arith in
+    rw e (rw (pow-add 2 W W) (mul-lt a b (2 ^ W) (2 ^ W) p q))
+
+-- a word means at most 2 ^ (W - 1) to either side of 0
+pub signed_magnitude : (W a : ℕ) → IsWidth W → a < 2 ^ W → unsigned_abs (signed W a) ≤ 2 ^ (W - 1)
+unfolding signed
+signed_magnitude W a w p = grind (arith, nat_tests, ints)
+
+-- a number lies within its magnitude
+within_magnitude : (z : ℤ) (m : ℕ) → unsigned_abs z ≤ m → (neg_ℤ (pos m) ≤ℤ z) × (z ≤ℤ pos m)
+within_magnitude (pos n) m h = (omega (arith, ints, h), omega (arith, ints, h))
+within_magnitude (negsuc n) m h = (omega (arith, ints, h), omega (arith, ints, h))
+
+-- a product of meanings lies within 2 ^ (2 * W - 2)
+pub product_within : (W a b : ℕ) → IsWidth W → a < 2 ^ W → b < 2 ^ W →
+    (neg_ℤ (pos (2 ^ (2 * W - 2))) ≤ℤ (signed W a *ℤ signed W b)) × ((signed W a *ℤ signed W b) ≤ℤ pos (2 ^ (2 * W - 2)))
+product_within W a b w p q =
+    let e : 2 * W - 2 ≡ W - 1 + (W - 1) = grind arith in
+    let most : unsigned_abs (signed W a *ℤ signed W b) ≤ 2 ^ (2 * W - 2) =
+        rw (unsigned_abs-mul (signed W a) (signed W b), e, pow-add 2 (W - 1) (W - 1))
+            (mul-le (unsigned_abs (signed W a)) (unsigned_abs (signed W b)) (2 ^ (W - 1)) (2 ^ (W - 1)) (signed_magnitude W a w p) (signed_magnitude W b w q)) in
+    within_magnitude (signed W a *ℤ signed W b) (2 ^ (2 * W - 2)) most
