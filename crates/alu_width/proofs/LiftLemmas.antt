@@ -168,9 +168,10 @@ unfolding product
 imul_by_words W a b p w small is_p =
     let e : 2 * W ≡ W + W = omega arith in
     let whole : low_bits (2 * W) (signed W a *ℤ signed W b) ≡ p % 2 ^ (2 * W) =
-        sym (product_in_64 (2 * W) W a b (grind arith)) ∙ ap (λ m. m % 2 ^ (2 * W)) (sym is_p) in
-    (ap (λ m. m % 2 ^ W) whole ∙ mod_mod p (2 * W) W (omega arith),
-     ap (λ m. m / 2 ^ W) whole ∙ ap (λ m. p % 2 ^ m / 2 ^ W) e ∙ field_of p W W)
+    sym (product_in_64 (2 * W) W a b (grind arith)) ∙ ap (λ m. m % 2 ^ (2 * W)) (sym is_p) in (
+      ap (λ m. m % 2 ^ W) whole ∙ mod_mod p (2 * W) W (omega arith),
+      ap (λ m. m / 2 ^ W) whole ∙ ap (λ m. p % 2 ^ m / 2 ^ W) e ∙ field_of p W W,
+    )
 
 -- the answer of a division
 abbrev answer : (x y : ℕ) → Result Quotient DivFault

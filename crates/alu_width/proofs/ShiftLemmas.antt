@@ -9,7 +9,8 @@ use Rattle.word_arith.specs.Width.{IsWidth}
 use Rattle.word_arith.specs.Bits.{bit, top_bit}
 use Rattle.word_arith.specs.Signed.{signed, low_bits, sign_extend}
 use Rattle.word_arith.proofs.BitLemmas.{top_bit_is}
-use Rattle.word_arith.proofs.ExtendLemmas.{low_bits_signed, sar_extended}
+use Rattle.word_arith.proofs.ExtendLemmas.{sar_extended}
+use Rattle.word_arith.proofs.SignedLemmas.{low_bits_signed}
 use Rattle.word_arith.proofs.ShiftLemmas.{mod_small, mod_mod, shl_mod}
 use Rattle.word_arith.proofs.TurnLemmas.{turn_left-zero}
 use Rattle.alu_width.specs.declared.flags.Flags.{Flags}

@@ -13,8 +13,7 @@ pub use Rattle.word_arith.proofs.FlagLemmas.{bit_below, bit_is_zero, bit-not, bi
 -- the top bit, by a shift
 pub use Rattle.word_arith.proofs.BitLemmas.{top_bit_is, top_bit_shr, top_and_xor, pow_half}
 -- what a word means, and the word of a meaning
-pub use Rattle.word_arith.proofs.SignedLemmas.{signed_low_bits, signed_fits, signed_not_zero}
-pub use Rattle.word_arith.proofs.ExtendLemmas.{signed_is, low_bits_signed}
+pub use Rattle.word_arith.proofs.SignedLemmas.{signed_low_bits, signed_fits, signed_low, signed_high, signed_not_zero, fits_pos, fits_negsuc, signed_is, low_bits_signed}
 -- low bits through sums, differences, products and cuts
 pub use Rattle.word_arith.proofs.LowBitsLemmas.{low_bits_is, low_bits_pos, low_bits_below, low_bits_same, low_bits_read, low_bits-add, low_bits-sub, low_bits-mul, low_bits-mod}
 -- extension by the sign

@@ -1,6 +1,6 @@
 -- Extension by the sign, and division by a power of two that rounds down, at any width.
 use Rattle.std.proofs.Common.{◌≡◌, ℕ, ◌+◌, ◌-◌, ◌*◌, ◌/◌, ◌%◌, ◌^◌, ◌<◌, ◌≤◌, Bool, true, false, arith, ap, ◌∙◌, inl, inr, sym}
-use Rattle.std.specs.Prelude.{ℤ, pos, negsuc, ◌+ℤ◌, ◌-ℤ◌, nat_le, if◌then◌else◌}
+use Rattle.std.specs.Prelude.{ℤ, pos, negsuc, ◌+ℤ◌, ◌-ℤ◌}
 use Rattle.std.specs.Int.{int_div_euclid, bit_at}
 use Rattle.std.proofs.lemmas.Bool.{le-leb, lt-leb}
 use Rattle.std.proofs.lemmas.Bool.Decides.{nat_tests, leb_tells}
@@ -12,28 +12,9 @@ use Rattle.word_arith.specs.Width.{IsWidth}
 use Rattle.word_arith.specs.Bits.{bit, top_bit}
 use Rattle.word_arith.specs.Signed.{signed, low_bits, sign_extend}
 use Rattle.word_arith.proofs.BitLemmas.{pow_half}
+use Rattle.word_arith.proofs.SignedLemmas.{signed_is}
 use Rattle.word_arith.proofs.LowBitsLemmas.{low_bits_is, low_bits_below, low_bits-mod}
 use Rattle.word_arith.proofs.ShiftLemmas.{pow_split, mod_small}
-
--- a choice by a flag as a product with it
-chosen : (b : Bool) (a m : ℕ) → (if b then pos a -ℤ pos m else pos a) ≡ pos a -ℤ pos (bit b * m)
-chosen true a m = omega (arith, ints)
-chosen false a m = omega (arith, ints)
-
--- what a word means: itself less 2 ^ W times its top bit
-pub signed_is : (W a : ℕ) → signed W a ≡ pos a -ℤ pos (bit (top_bit W a) * 2 ^ W)
-unfolding signed top_bit
-signed_is W a = chosen (nat_le (2 ^ (W - 1)) a) a (2 ^ W)
-
--- the word of what a word means is that word
-pub low_bits_signed : (W a : ℕ) → a < 2 ^ W → low_bits W (signed W a) ≡ a
-low_bits_signed W a p =
-    low_bits_is W (signed W a) (bit (top_bit W a)) a (omega (arith, ints, signed_is W a)) ∙ mod_small a W p
-
--- a flag is at most 1
-pub bit_le : (b : Bool) → bit b ≤ 1
-bit_le true = omega arith
-bit_le false = omega arith
 
 -- the product of a flag and a number
 flag_times : (b : Bool) (m : ℕ) → bit b * m ≤ m

@@ -6,20 +6,19 @@ use Rattle.std.proofs.Math.Nat.{mod-eq_of_lt, mod-eq-sub-mod}
 use Rattle.std.proofs.lemmas.Nat.{mod_below, pow_pos}
 use Rattle.word_arith.specs.Laws.{TwosComplement, Extends, IsField, Replaces, Turns}
 use Rattle.word_arith.specs.Turns.{turn_left}
-use Rattle.word_arith.specs.Width.{IsWidth}
-use Rattle.word_arith.proofs.SignedLemmas.{signed_low_bits, signed_fits}
+use Rattle.word_arith.proofs.SignedLemmas.{signed_low_bits, signed_fits, low_bits_signed}
 use Rattle.word_arith.proofs.LowBitsLemmas.{low_bits_below}
-use Rattle.word_arith.proofs.ExtendLemmas.{signed_extend, sign_extend_below, low_bits_signed, bit_at-sign_extend_low, bit_at-sign_extend_high}
+use Rattle.word_arith.proofs.ExtendLemmas.{signed_extend, sign_extend_below, bit_at-sign_extend_low, bit_at-sign_extend_high}
 use Rattle.word_arith.proofs.FieldLemmas.{bit_at-insert_inside, bit_at-insert_below, bit_at-insert_above, bit_at-field}
 use Rattle.word_arith.proofs.TurnLemmas.{turn_left_below, bit_at-turn_left_low, bit_at-turn_left_high}
 
--- at each width words and their meanings correspond
-pub twos_complement_holds : (W : ℕ) → IsWidth W → TwosComplement W
-twos_complement_holds W w = record {
-  meaning_fits = λ a p. signed_fits W a w p;
+-- words and their meanings correspond
+pub twos_complement_holds : (W : ℕ) → 0 < W → TwosComplement W
+twos_complement_holds W some = record {
+  meaning_fits = λ a p. signed_fits W a some p;
   word_of_meaning = λ a p. low_bits_signed W a p;
   word_fits = λ z. low_bits_below W z;
-  meaning_of_word = λ z f. signed_low_bits W z w f;
+  meaning_of_word = λ z f. signed_low_bits W z some f;
 }
 
 -- an extension means the same and copies the top bit

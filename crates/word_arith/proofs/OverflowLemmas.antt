@@ -61,12 +61,15 @@ range_by_half_64 z low high = grind (arith, nat_tests, ints)
 -- so at each width
 half_range : (W : ℕ) → IsWidth W → IsRangeByHalf W
 half_range W w = elim w [
-      inl e ↦ rw e range_by_half_8
-    | inr v ↦ elim v [
-      inl e ↦ rw e range_by_half_16
+  | inl e ↦ rw e range_by_half_8
+  | inr v ↦ elim v [
+    | inl e ↦ rw e range_by_half_16
     | inr u ↦ elim u [
-      inl e ↦ rw e range_by_half_32
-    | inr e ↦ rw e range_by_half_64 ] ] ]
+      | inl e ↦ rw e range_by_half_32
+      | inr e ↦ rw e range_by_half_64
+    ]
+  ]
+]
 
 -- whether a product of meanings fits W bits, by the extension of its low half
 pub range_by_half : (W : ℕ) (z : ℤ) → IsWidth W → neg_ℤ (pos (2 ^ (2 * W - 2))) ≤ℤ z → z ≤ℤ pos (2 ^ (2 * W - 2)) →

@@ -6,7 +6,7 @@ use Rattle.std.proofs.lemmas.Int.{ints, unsigned_abs-mul}
 use Rattle.std.proofs.lemmas.Nat.{pow-add, mul-lt, mul-le}
 use Rattle.word_arith.specs.Width.{IsWidth}
 use Rattle.word_arith.specs.Signed.{signed, low_bits, sign_extend}
-use Rattle.word_arith.proofs.ExtendLemmas.{low_bits_signed}
+use Rattle.word_arith.proofs.SignedLemmas.{low_bits_signed}
 use Rattle.word_arith.proofs.LowBitsLemmas.{low_bits-mod, low_bits-mul}
 
 -- the low half of a product is the same with sign as without
@@ -50,6 +50,6 @@ pub product_within : (W a b : ℕ) → IsWidth W → a < 2 ^ W → b < 2 ^ W →
 product_within W a b w p q =
     let e : 2 * W - 2 ≡ W - 1 + (W - 1) = grind arith in
     let most : unsigned_abs (signed W a *ℤ signed W b) ≤ 2 ^ (2 * W - 2) =
-        rw (unsigned_abs-mul (signed W a) (signed W b), e, pow-add 2 (W - 1) (W - 1))
-            (mul-le (unsigned_abs (signed W a)) (unsigned_abs (signed W b)) (2 ^ (W - 1)) (2 ^ (W - 1)) (signed_magnitude W a w p) (signed_magnitude W b w q)) in
+    rw (unsigned_abs-mul (signed W a) (signed W b), e, pow-add 2 (W - 1) (W - 1))
+    (mul-le (unsigned_abs (signed W a)) (unsigned_abs (signed W b)) (2 ^ (W - 1)) (2 ^ (W - 1)) (signed_magnitude W a w p) (signed_magnitude W b w q)) in
     within_magnitude (signed W a *ℤ signed W b) (2 ^ (2 * W - 2)) most

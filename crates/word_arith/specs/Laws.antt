@@ -5,7 +5,7 @@ use Rattle.word_arith.specs.Bits.{bit, top_bit, field, insert}
 use Rattle.word_arith.specs.Signed.{signed, fits_signed, low_bits, sign_extend}
 use Rattle.word_arith.specs.Turns.{turn_left}
 
--- words of W bits and the numbers that they mean are in one-to-one correspondence, at each of the widths
+-- words of W bits and the numbers that they mean are in one-to-one correspondence
 pub record TwosComplement (W : ℕ) : Type 0 where
   pub meaning_fits : (a : ℕ) → a < 2 ^ W → fits_signed W (signed W a) ≡ true
   pub word_of_meaning : (a : ℕ) → a < 2 ^ W → low_bits W (signed W a) ≡ a

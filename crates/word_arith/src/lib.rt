@@ -4,13 +4,12 @@
 #![tactic(auto)]
 
 ghost use Rattle.std.specs.Prelude.{ℕ, ◌^◌, ◌<◌, ◌≤◌};
-ghost use Rattle.word_arith.specs.Width.{IsWidth};
 ghost use Rattle.word_arith.specs.Laws.{TwosComplement, Extends, IsField, Replaces, Turns};
 
 /// The law of two's complement: words and the numbers that they mean correspond one to one. It computes nothing.
 #[tactic(auto, using(crate::proofs::LawLemmas::twos_complement_holds))]
 pub fn twos_complement()
-    ensures { (W : ℕ) → IsWidth W → TwosComplement W }
+    ensures { (W : ℕ) → 0 < W → TwosComplement W }
 {}
 
 /// The law of extension: it means the same, the word's bits stay, and each new bit is its top bit. It computes nothing.

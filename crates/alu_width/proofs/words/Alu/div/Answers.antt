@@ -9,7 +9,7 @@ use Rattle.alu_width.proofs.words.Alu.div.Goals as goal
 pub signed_quotient-requires-clause-d_not_zero : goal.signed_quotient-requires-clause-d_not_zero
 signed_quotient-requires-clause-d_not_zero g c =
     let fits : FitsSigned w128 c.signed.result = search rules in
-    λ e. signed_not_zero g.row.W c.args.by c.requires.width c.requires.by_fits c.if-by-eq0.false
+    λ e. signed_not_zero g.row.W c.args.by c.requires.by_fits c.if-by-eq0.false
     (sym c.signed.ensures.value ∙ sym (to_z-of_z w128 c.signed.result fits) ∙ e)
 
 pub returns-then-signed : goal.returns-then-signed
