@@ -1,0 +1,11 @@
+pub mod ByCl
+pub mod Comparisons
+pub mod Conditions
+pub mod Effects
+pub mod Masked
+pub mod Overs
+pub mod Products
+pub mod Quotients
+pub mod Shifts
+pub mod Sums
+pub mod Turns

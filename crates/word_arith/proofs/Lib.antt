@@ -1,0 +1,16 @@
+pub mod ArmLemmas
+pub mod BitLemmas
+pub mod CallerLemmas
+pub mod CarryLemmas
+pub mod DivisionLemmas
+pub mod ExtendLemmas
+pub mod FieldLemmas
+pub mod FlagLemmas
+pub mod LawLemmas
+pub mod LowBitsLemmas
+pub mod MaskLemmas
+pub mod OverflowLemmas
+pub mod ProductLemmas
+pub mod ShiftLemmas
+pub mod SignedLemmas
+pub mod TurnLemmas
