@@ -7,3 +7,4 @@ pub mod TableFacts
 pub mod Readings
 pub mod Law
 pub mod AnswerLemmas
+pub mod CallerLemmas

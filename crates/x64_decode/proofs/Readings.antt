@@ -1,5 +1,5 @@
 -- The reading of bytes, and the spellings that begin them or that they begin.
-use Rattle.std.proofs.Common.{◌≡◌, ℕ, zero, suc, ◌+◌, ◌<◌, ◌≤◌, List, [], ◌∷◌, ◌++◌, length, take, drop, Option, Some, None, IfSome, ◌⊎◌, inl, inr, refl, sym, ◌∙◌, ap, subst, arith, add_assoc, append_assoc, append-nil, length-append}
+use Rattle.std.proofs.Common.{◌≡◌, ℕ, zero, suc, ◌+◌, ◌<◌, ◌≤◌, List, [], ◌∷◌, ◌++◌, length, take, drop, Option, Some, None, IfSome, ◌⊎◌, inl, inr, refl, sym, ◌∙◌, ap, subst, arith, append_assoc, append-nil, length-append}
 use Rattle.std.specs.List.{AllByRecursion}
 use Rattle.std.proofs.Math.Seq.{drop-append_seam, drop-append-add, take-append-add}
 use Rattle.x64_syntax.specs.declared.instr.Instr.{Instr}
@@ -61,12 +61,20 @@ body-opens s i spelled u =
     let Q : List ℕ → Type 0 = λ x. 0 < length x in
     (subst IsBody (sym whole) first.0, subst Q (sym by.parts) second.1)
 
+-- three parts, with more bytes after the last
+append-parts : (c p z l m : List ℕ) → c ≡ p ++ (z ++ l) → c ++ m ≡ p ++ (z ++ (l ++ m))
+append-parts c p z l m e =
+    ap (λ x. x ++ m) e ∙ (append_assoc p (z ++ l) m ∙ ap (λ x. p ++ x) (append_assoc z l m))
+
+-- three parts, with the last cut off
+take-parts : (c p z l : List ℕ) (m : ℕ) → c ≡ p ++ (z ++ l) → take (length p + (length z + m)) c ≡ p ++ (z ++ take m l)
+take-parts c p z l m e =
+    ap (take (length p + (length z + m))) e
+    ∙ (take-append-add p (z ++ l) (length z + m) ∙ ap (λ x. p ++ x) (take-append-add z l m))
+
 pub parts-append : (s : List ℕ) (i : Instr) (spelled : Spells s i) (u : List ℕ) →
     s ++ u ≡ spelled.prefixes ++ (rex_bytes spelled.rex ++ (spelled.body ++ u))
-parts-append s i spelled u =
-    ap (λ x. x ++ u) spelled.parts
-    ∙ (append_assoc spelled.prefixes (rex_bytes spelled.rex ++ spelled.body) u
-    ∙ ap (λ x. spelled.prefixes ++ x) (append_assoc (rex_bytes spelled.rex) spelled.body u))
+parts-append s i spelled u = append-parts s spelled.prefixes (rex_bytes spelled.rex) spelled.body u spelled.parts
 
 -- ---- what begins with a spelling is read as done
 
@@ -192,11 +200,8 @@ reading_of-spelled c i n bytes e =
     let p = s.prefixes in
     let z = rex_bytes s.rex in
     let size : f.length ≡ length p + length z = ap (λ x. x.length) s.front ∙ front_of-length p s.rex in
-    let cut : take n c ≡ p ++ (z ++ take m left) =
-    ap (λ x. take x c) (sum ∙ (ap (λ x. x + m) size ∙ add_assoc (length p) (length z) m))
-    ∙ (ap (take (length p + (length z + m))) s.parts
-    ∙ (take-append-add p (z ++ left) (length z + m)
-    ∙ ap (λ x. p ++ x) (take-append-add z left m))) in
+    let sum' : n ≡ length p + (length z + m) = omega (arith, sum, size) in
+    let cut : take n c ≡ p ++ (z ++ take m left) = ap (λ x. take x c) sum' ∙ take-parts c p z left m s.parts in
     let total : length c ≡ length p + length (z ++ left) = ap length s.parts ∙ length-append p (z ++ left) in
     let rest : length (z ++ left) ≡ length z + length left = length-append z left in
     let room : m ≤ length left = one.0 in
@@ -232,10 +237,7 @@ reading_of-missing c k bytes e =
     let s = stands_before c in
     let p = s.prefixes in
     let z = rex_bytes s.rex in
-    let whole : c ++ found.0 ≡ p ++ (z ++ (left ++ found.0)) =
-    ap (λ x. x ++ found.0) s.parts
-    ∙ (append_assoc p (z ++ left) found.0
-    ∙ ap (λ x. p ++ x) (append_assoc z left found.0)) in
+    let whole : c ++ found.0 ≡ p ++ (z ++ (left ++ found.0)) = append-parts c p z left found.0 s.parts in
     let P : Front → Type 0 = λ x. SpellsBy x by.0 (left ++ found.0) found.1 in (
       more.0,
       (

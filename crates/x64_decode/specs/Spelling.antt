@@ -120,6 +120,10 @@ Answers c (Err Cut) = (BeginsWithSpelling c → ⊥) × BeginsShortSpelling c
 Answers c (Err TooLong) = (BeginsWithSpelling c → ⊥) × (BeginsShortSpelling c → ⊥) × BeginsSpelling c
 Answers c (Err Unknown) = (BeginsWithSpelling c → ⊥) × (BeginsSpelling c → ⊥)
 
+-- an instruction's length: 1 to 15, and within so many bytes
+abbrev pub IsLengthWithin : ℕ → ℕ → Type 0
+IsLengthWithin count n = (0 < n) × (n ≤ 15) × (n ≤ count)
+
 -- no spelling begins another, and none means two instructions
 abbrev pub SpellingsStandAlone : Type 0
 SpellingsStandAlone =

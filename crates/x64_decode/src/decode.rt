@@ -1,11 +1,14 @@
-ghost use Rattle.std.specs.Prelude.{◌≡◌, ◌≤◌, length, take};
+ghost use Rattle.std.specs.Prelude.{◌≡◌, ◌≤◌, IfOk, length, take};
 ghost use Rattle.x64_decode.specs.Reading.{IsWithin, reading_of};
-ghost use Rattle.x64_decode.specs.Spelling.{Answers, SpellingsStandAlone};
+ghost use Rattle.x64_decode.specs.Spelling.{Answers, IsLengthWithin, SpellingsStandAlone};
 
 use crate::bytes::{bytes_from, bytes_to};
 use crate::front::front_at;
 use crate::reading::{Reading, read_rows};
 use x64_syntax::Instr;
+
+#[cfg(test)]
+mod tests;
 
 /// The most bytes that an instruction has.
 const LIMIT: usize = 15;
@@ -21,9 +24,12 @@ pub enum DecodeFault {
     TooLong,
 }
 
-/// The instruction that begins the bytes, and its length, 1 to 15. It takes no memory.
+/// The instruction that begins the bytes, and its length. It takes no memory.
+///
+/// Only the first 15 bytes are looked at. `CallerLemmas` says what an answer tells of the bytes as a whole.
 pub fn decode_one(bytes: &[u8]) -> Result<(Instr, u8), DecodeFault>
-    ensures { Answers (take 15 bytes.now) result }
+    ensures exact { Answers (take 15 bytes.now) result }
+    ensures length { IfOk result (λ r. IsLengthWithin (length bytes.now) r.1) }
 {
     answer(bytes_to(bytes, LIMIT))
 }
@@ -31,7 +37,8 @@ pub fn decode_one(bytes: &[u8]) -> Result<(Instr, u8), DecodeFault>
 /// The answer for at most 15 bytes.
 fn answer(bytes: &[u8]) -> Result<(Instr, u8), DecodeFault>
     requires { length bytes.now ≤ 15 }
-    ensures { Answers bytes.now result }
+    ensures exact { Answers bytes.now result }
+    ensures length { IfOk result (λ r. IsLengthWithin (length bytes.now) r.1) }
 {
     match read(bytes) {
         Reading::Done(instr, length) => Ok((instr, length as u8)),
