@@ -6,6 +6,8 @@ use Rattle.x64_decode.specs.declared.decode.DecodeFault.{DecodeFault}
 use Rattle.x64_decode.specs.declared.decode.DecodeFault.TheVariants.{Cut, Unknown, TooLong}
 use Rattle.x64_decode.specs.Fronts.{rex_bytes}
 use Rattle.x64_decode.specs.Spelling.{Answers, BeginsWithSpelling, IsLengthWithin, Spells, SpellingsStandAlone}
+use Rattle.x64_syntax.specs.Formed.{IsFormed}
+use Rattle.x64_decode.proofs.RowForms
 use Rattle.x64_decode.proofs.Law.{spellings_stand_alone}
 use Rattle.x64_decode.proofs.Readings.{body-opens}
 
@@ -16,6 +18,10 @@ spelling-some bytes i spelled =
     let front : length (rex_bytes spelled.rex ++ spelled.body) ≡ length (rex_bytes spelled.rex) + length spelled.body = length-append (rex_bytes spelled.rex) spelled.body in
     let whole : length bytes ≡ length spelled.prefixes + length (rex_bytes spelled.rex ++ spelled.body) = ap length spelled.parts ∙ length-append spelled.prefixes (rex_bytes spelled.rex ++ spelled.body) in
     omega arith
+
+-- its operands are in range and where the instruction has them
+pub spelling-formed : (bytes : List ℕ) (i : Instr) → Spells bytes i → IsFormed i
+spelling-formed = RowForms.spelling-formed
 
 -- no spelling begins another, and none means two instructions
 pub spellings-alone : SpellingsStandAlone

@@ -8,3 +8,5 @@ pub mod Readings
 pub mod Law
 pub mod AnswerLemmas
 pub mod CallerLemmas
+pub mod FormedLemmas
+pub mod RowForms

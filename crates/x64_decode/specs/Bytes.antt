@@ -2,7 +2,7 @@
 use Rattle.std.specs.Prelude.{◌≡◌, ℕ, ◌+◌, ◌-◌, ◌*◌, ◌/◌, ◌^◌, ◌<◌, Bool, true, ◌||◌, ◌==◌, nat_lt, if◌then◌else◌, List, drop, slice_index, ℤ, pos, ◌-ℤ◌}
 use Rattle.std.specs.List.{list_any}
 use Rattle.x64_syntax.specs.declared.operand.Width.{Width}
-use Rattle.x64_syntax.specs.declared.operand.Width.TheVariants as width
+use Rattle.x64_syntax.specs.Operands.{bits}
 
 -- a byte
 abbrev pub IsByte : ℕ → Type 0
@@ -47,13 +47,6 @@ signed_byte n = if nat_lt n 0x80 then pos n else pos n -ℤ pos 0x100
 -- 32 bits as a number with sign
 unfoldable pub signed_long : ℕ → ℤ
 signed_long n = if nat_lt n 0x80000000 then pos n else pos n -ℤ pos 0x100000000
-
--- the bits of a width
-abbrev pub bits : Width → ℕ
-bits width.Byte = 8
-bits width.Word = 16
-bits width.Long = 32
-bits width.Quad = 64
 
 -- a number of the first width, sign-extended to the second
 abbrev pub extend : Width → Width → ℕ → ℕ

@@ -1,10 +1,11 @@
 -- The instruction that a row means behind a front, with the bytes after its code.
-use Rattle.std.specs.Prelude.{ℕ, Bool, true, false, ◌||◌, List}
+use Rattle.std.specs.Prelude.{ℕ, Bool, ◌||◌, List}
 use Rattle.x64_syntax.specs.declared.instr.Instr.{Instr}
 use Rattle.x64_syntax.specs.declared.instr.Instr.TheVariants as instr
 use Rattle.x64_syntax.specs.declared.operand.Operand.{Operand}
 use Rattle.x64_syntax.specs.declared.operand.Operand.TheVariants as operand
 use Rattle.x64_syntax.specs.declared.operand.Width.{Width}
+use Rattle.x64_syntax.specs.Operands.{is_in_memory}
 use Rattle.x64_decode.specs.declared.row.Front.{Front}
 use Rattle.x64_decode.specs.declared.row.Name.{Name}
 use Rattle.x64_decode.specs.declared.row.Name.TheVariants as name
@@ -16,11 +17,6 @@ use Rattle.x64_decode.specs.Operands.{operand_at}
 abbrev pub immediate_of : Operand → ℕ
 immediate_of (operand.Imm n) = n
 immediate_of _ = 0
-
--- an operand is memory
-abbrev pub is_in_memory : Operand → Bool
-is_in_memory (operand.Mem m) = true
-is_in_memory _ = false
 
 -- the instruction of a name; an exchange with memory is locked also without F0
 abbrev pub named : Name → Width → Operand → Operand → Operand → Bool → Instr

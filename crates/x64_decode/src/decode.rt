@@ -1,5 +1,6 @@
 ghost use Rattle.std.specs.Prelude.{◌≡◌, ◌≤◌, IfOk, length, take};
 ghost use Rattle.x64_decode.specs.Reading.{IsWithin, reading_of};
+ghost use Rattle.x64_syntax.specs.Formed.{IsFormed};
 ghost use Rattle.x64_decode.specs.Spelling.{Answers, IsLengthWithin, SpellingsStandAlone};
 
 use crate::bytes::{bytes_from, bytes_to};
@@ -30,6 +31,7 @@ pub enum DecodeFault {
 pub fn decode_one(bytes: &[u8]) -> Result<(Instr, u8), DecodeFault>
     ensures exact { Answers (take 15 bytes.now) result }
     ensures length { IfOk result (λ r. IsLengthWithin (length bytes.now) r.1) }
+    ensures formed { IfOk result (λ r. IsFormed r.0) }
 {
     answer(bytes_to(bytes, LIMIT))
 }
@@ -39,6 +41,7 @@ fn answer(bytes: &[u8]) -> Result<(Instr, u8), DecodeFault>
     requires { length bytes.now ≤ 15 }
     ensures exact { Answers bytes.now result }
     ensures length { IfOk result (λ r. IsLengthWithin (length bytes.now) r.1) }
+    ensures formed { IfOk result (λ r. IsFormed r.0) }
 {
     match read(bytes) {
         Reading::Done(instr, length) => Ok((instr, length as u8)),

@@ -1,5 +1,6 @@
 ghost use Rattle.std.specs.Prelude.{◌≡◌, drop};
-ghost use Rattle.x64_decode.specs.Meaning.{immediate_of, is_in_memory, meaning, named};
+ghost use Rattle.x64_decode.specs.Meaning.{immediate_of, meaning, named};
+ghost use Rattle.x64_syntax.specs.Operands.{is_in_memory};
 ghost use Rattle.x64_decode.specs.Operands.{full_number, operand_at, whole_number};
 
 use crate::bytes::{byte_or, bytes_from};

@@ -1,5 +1,6 @@
 ghost use Rattle.std.specs.Prelude.{◌≡◌, ◌-◌, ◌^◌, ◌≤◌};
-ghost use Rattle.x64_decode.specs.Bytes.{bits, eight_bytes, extend, four_bytes, signed_byte, signed_long, two_bytes};
+ghost use Rattle.x64_decode.specs.Bytes.{eight_bytes, extend, four_bytes, signed_byte, signed_long, two_bytes};
+ghost use Rattle.x64_syntax.specs.Operands.{bits};
 ghost use Rattle.x64_syntax.specs.declared.operand.Width.TheVariants as width;
 
 use crate::bytes::{byte_or, bytes_from};
