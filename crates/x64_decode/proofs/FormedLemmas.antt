@@ -43,11 +43,12 @@ reg_of-formed w s (Some b) low worth e small =
     rw (and-false (is_byte s)) (plain_register w (low + 8 * rex_bit worth (Some b)) (omega arith))
 reg_of-formed w s None low worth e small =
     let n = low + 8 * rex_bit worth None in
-    elim (cases_Bool (is_byte s && nat_le 4 n))
-    [ inl holds ↦
-        (let parts = and_parts (is_byte s) (nat_le 4 n) holds in
-         rw holds (record { number = omega arith; high = λ h. (e parts.0, omega arith) }))
-    | inr fails ↦ rw fails (plain_register w n (omega arith)) ]
+    elim (cases_Bool (is_byte s && nat_le 4 n)) [
+      | inl holds ↦
+          (let parts = and_parts (is_byte s) (nat_le 4 n) holds in
+          rw holds (record { number = omega arith; high = λ h. (e parts.0, omega arith) }))
+      | inr fails ↦ rw fails (plain_register w n (omega arith))
+    ]
 
 byte_width : (f : Front) (s : Size) → is_byte s ≡ true → width_of f s ≡ width.Byte
 byte_width f size.Byte e = refl
@@ -112,10 +113,10 @@ high_byte width.Quad n h = omega arith
 -- an extended byte fits every width
 pub extend_byte-small : (w : Width) (n : ℕ) → n < 256 → extend width.Byte w n < 2 ^ bits w
 extend_byte-small w n h =
-    elim (cases_Bool (nat_lt n 128))
-    [ inl holds ↦ (rw holds (small_byte w n h))
-    | inr fails ↦ (rw fails (high_byte w n h)) ]
-
+    elim (cases_Bool (nat_lt n 128)) [
+      | inl holds ↦ (rw holds (small_byte w n h))
+      | inr fails ↦ (rw fails (high_byte w n h))
+    ]
 
 pub full_number-small : (w : Width) (xs : List ℕ) → w ≢ width.Byte → AllByRecursion IsByte xs → full_number w xs < 2 ^ bits w
 full_number-small width.Byte xs h k = absurd (h refl)
@@ -145,9 +146,10 @@ base_of-formed : (f : Front) (m s : ℕ) → IfSome (base_of f m s) (λ n. n < 1
 unfolding base_of
 base_of-formed f m s =
     let bit : rex_bit 1 f.rex < 2 = rex_bit-small 1 f.rex in
-    elim (has_sib m) as (λ b. IfSome (if b then (if lacks_base m s then None else Some (s % 8 + 8 * rex_bit 1 f.rex)) else (if is_rip m then None else Some (m % 8 + 8 * rex_bit 1 f.rex))) (λ n. n < 16))
-    [ true ↦ number_or_none (lacks_base m s) (s % 8 + 8 * rex_bit 1 f.rex) (omega arith)
-    | false ↦ number_or_none (is_rip m) (m % 8 + 8 * rex_bit 1 f.rex) (omega arith) ]
+    elim (has_sib m) as (λ b. IfSome (if b then (if lacks_base m s then None else Some (s % 8 + 8 * rex_bit 1 f.rex)) else (if is_rip m then None else Some (m % 8 + 8 * rex_bit 1 f.rex))) (λ n. n < 16)) [
+      | true ↦ number_or_none (lacks_base m s) (s % 8 + 8 * rex_bit 1 f.rex) (omega arith)
+      | false ↦ number_or_none (is_rip m) (m % 8 + 8 * rex_bit 1 f.rex) (omega arith)
+    ]
 
 -- a relative address has no SIB byte
 relative_plain : (m : ℕ) → is_rip m ≡ true → has_sib m ≡ false
@@ -165,9 +167,10 @@ unfolding index_of
 index_of-formed f s =
     let n = s / 8 % 8 + 8 * rex_bit 2 f.rex in
     let bit : rex_bit 2 f.rex < 2 = rex_bit-small 2 f.rex in
-    elim (cases_Bool (n == 4))
-    [ inl holds ↦ rw holds tt
-    | inr fails ↦ rw fails (omega arith, eqb-false n 4 fails) ]
+    elim (cases_Bool (n == 4)) [
+      | inl holds ↦ rw holds tt
+      | inr fails ↦ rw fails (omega arith, eqb-false n 4 fails)
+    ]
 
 scale_of-formed : (f : Front) (s : ℕ) → s < 256 → (k : ℕ) × (k < 4) × (scale_of f s ≡ 2 ^ k)
 unfolding scale_of
@@ -209,9 +212,10 @@ rm_operand-in_memory f s rest =
 pub operand_width-not_byte : (f : Front) → operand_width f ≢ width.Byte
 unfolding operand_width
 operand_width-not_byte f =
-    elim (rex_bit 8 f.rex == 1) as (λ b. (if b then width.Quad else (if f.word then width.Word else width.Long)) ≢ width.Byte)
-    [ true ↦ (λ e. absurd (cc))
-    | false ↦ (elim f.word as (λ b. (if b then width.Word else width.Long) ≢ width.Byte) [ true ↦ (λ e. absurd (cc)) | false ↦ (λ e. absurd (cc)) ]) ]
+    elim (rex_bit 8 f.rex == 1) as (λ b. (if b then width.Quad else (if f.word then width.Word else width.Long)) ≢ width.Byte) [
+      | true ↦ (λ e. absurd (cc))
+      | false ↦ (elim f.word as (λ b. (if b then width.Word else width.Long) ≢ width.Byte) [ true ↦ (λ e. absurd (cc)) | false ↦ (λ e. absurd (cc)) ])
+    ]
 
 pub operand_width-not_quad : (f : Front) → rex_bit 8 f.rex ≡ 0 → operand_width f ≢ width.Quad
 unfolding operand_width

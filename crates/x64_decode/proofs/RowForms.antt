@@ -66,25 +66,29 @@ register_unlocked f r h =
 -- F0 stands before memory alone, in a row that takes it
 locked_facts : (f : Front) (r : Row) (m : ℕ) → allows f r m ≡ true → f.lock ≡ true → (is_memory m ≡ true) × (takes_memory f r ≡ true)
 locked_facts f r m h locked =
-    elim (cases_Bool (has_modrm r))
-    [ inr none ↦ absurd (both_ways f.lock (unlocked f r m h none) locked)
-    | inl with_modrm ↦
-        (let part = taken f r m h with_modrm in
-         elim (cases_Bool (is_memory m))
-         [ inl holds ↦ (holds, rw holds at part)
-         | inr fails ↦ absurd (both_ways f.lock (register_unlocked f r (rw fails at part)).0 locked) ]) ]
+    elim (cases_Bool (has_modrm r)) [
+      | inr none ↦ absurd (both_ways f.lock (unlocked f r m h none) locked)
+      | inl with_modrm ↦
+          (let part = taken f r m h with_modrm in
+          elim (cases_Bool (is_memory m)) [
+            | inl holds ↦ (holds, rw holds at part)
+            | inr fails ↦ absurd (both_ways f.lock (register_unlocked f r (rw fails at part)).0 locked)
+          ])
+    ]
 
 -- an operand that must be memory is
 is_memory-must : (f : Front) (r : Row) (m : ℕ) → allows f r m ≡ true → has_modrm r ≡ true → (must_be_memory r.to ≡ true) ⊎ (must_be_memory r.from ≡ true) → is_memory m ≡ true
 is_memory-must f r m h with_modrm must =
     let part = taken f r m h with_modrm in
-    elim (cases_Bool (is_memory m))
-    [ inl holds ↦ holds
-    | inr fails ↦
-        (let free = register_unlocked f r (rw fails at part) in
-         elim must
-         [ inl to ↦ absurd (both_ways (must_be_memory r.to) free.1.0 to)
-         | inr from ↦ absurd (both_ways (must_be_memory r.from) free.1.1 from) ]) ]
+    elim (cases_Bool (is_memory m)) [
+      | inl holds ↦ holds
+      | inr fails ↦
+          (let free = register_unlocked f r (rw fails at part) in
+          elim must [
+            | inl to ↦ absurd (both_ways (must_be_memory r.to) free.1.0 to)
+            | inr from ↦ absurd (both_ways (must_be_memory r.from) free.1.1 from)
+          ])
+    ]
 
 -- ---- tests of a row's operands
 
@@ -342,9 +346,10 @@ always_is f r rest st rm always =
     let with_modrm : has_modrm r ≡ true = to_asks r (rm_asks r.to rm) in
     let part = taken f r m st.allowed with_modrm in
     let same : f.lock ≡ is_memory m =
-        elim (cases_Bool (is_memory m))
-        [ inl holds ↦ always_locked r.lock f.lock always (rw holds at part) ∙ sym holds
-        | inr fails ↦ (register_unlocked f r (rw fails at part)).0 ∙ sym fails ] in
+    elim (cases_Bool (is_memory m)) [
+      | inl holds ↦ always_locked r.lock f.lock always (rw holds at part) ∙ sym holds
+      | inr fails ↦ (register_unlocked f r (rw fails at part)).0 ∙ sym fails
+    ] in
     same ∙ sym (rm_is f r rest r.to rm)
 
 -- F0 or memory is memory, where F0 stands before memory alone
@@ -366,18 +371,20 @@ pair_is : (f : Front) (r : Row) (rest : List ℕ) → AllByRecursion IsByte rest
     ArePair (width_of f r.size) (operand_at f r rest r.to) (operand_at f r rest r.from)
 pair_is f r rest bytes h =
     let s = r.size in
-    elim (or_cases (stored s r.to && in_register s r.from) ((in_register s r.to && stored s r.from) || (stored s r.to && is_number s r.from)) h)
-    [ inl one ↦
-        (let parts = and_parts (stored s r.to) (in_register s r.from) one in
-         inl (stored_is f r rest s r.to bytes parts.0, register_is f r rest s r.from parts.1))
-    | inr more ↦
-        (elim (or_cases (in_register s r.to && stored s r.from) (stored s r.to && is_number s r.from) more)
-         [ inl two ↦
-            (let parts = and_parts (in_register s r.to) (stored s r.from) two in
-             inr (inl (register_is f r rest s r.to parts.0, stored_is f r rest s r.from bytes parts.1)))
-         | inr three ↦
-            (let parts = and_parts (stored s r.to) (is_number s r.from) three in
-             inr (inr (stored_is f r rest s r.to bytes parts.0, number_is f r rest r.from bytes parts.1))) ]) ]
+    elim (or_cases (stored s r.to && in_register s r.from) ((in_register s r.to && stored s r.from) || (stored s r.to && is_number s r.from)) h) [
+      | inl one ↦
+          (let parts = and_parts (stored s r.to) (in_register s r.from) one in
+          inl (stored_is f r rest s r.to bytes parts.0, register_is f r rest s r.from parts.1))
+      | inr more ↦
+          (elim (or_cases (in_register s r.to && stored s r.from) (stored s r.to && is_number s r.from) more) [
+            | inl two ↦
+                (let parts = and_parts (in_register s r.to) (stored s r.from) two in
+                inr (inl (register_is f r rest s r.to parts.0, stored_is f r rest s r.from bytes parts.1)))
+            | inr three ↦
+                (let parts = and_parts (stored s r.to) (is_number s r.from) three in
+                inr (inr (stored_is f r rest s r.to bytes parts.0, number_is f r rest r.from bytes parts.1)))
+          ])
+    ]
 
 condition_is : (c : ℕ) → is_condition c ≡ true → (c < 16) × ((c ≢ 10) × (c ≢ 11))
 condition_is c h =
@@ -419,9 +426,10 @@ extension_is : (f : Front) (r : Row) (rest : List ℕ) (v : Width) → AllByRecu
 extension_is f r rest v bytes h =
     let parts = and_parts (not (is_byte r.size)) (in_register r.size r.to && stored (source_size v) r.from) h in
     let others = and_parts (in_register r.size r.to) (stored (source_size v) r.from) parts.1 in
-    let P : Width → Type 0 = λ w. IsStored w (operand_at f r rest r.from) in
-    (width-not_byte f r.size (not-true (is_byte r.size) parts.0),
-      (register_is f r rest r.size r.to others.0, subst P (source_is f v) (stored_is f r rest (source_size v) r.from bytes others.1)))
+    let P : Width → Type 0 = λ w. IsStored w (operand_at f r rest r.from) in (
+      width-not_byte f r.size (not-true (is_byte r.size) parts.0),
+      (register_is f r rest r.size r.to others.0, subst P (source_is f v) (stored_is f r rest (source_size v) r.from bytes others.1)),
+    )
 
 without_w : (b : Before) (f : Front) → is_without_w b ≡ true → before_allows b f ≡ true → rex_bit 8 f.rex ≡ 0
 without_w before.WithoutW f h e = eqb-true (rex_bit 8 f.rex) 0 e
@@ -437,13 +445,14 @@ division_is : (f : Front) (r : Row) (rest : List ℕ) → Stands f r rest →
 division_is f r rest st h =
     let parts = and_parts (stored r.size r.to) (is_byte r.size || (same_size r.size size.Operand && is_without_w r.before)) h in
     let narrow : width_of f r.size ≢ width.Quad =
-        elim (or_cases (is_byte r.size) (same_size r.size size.Operand && is_without_w r.before) parts.1)
-        [ inl one ↦ byte_not_quad f r.size one
-        | inr two ↦
-            (let others = and_parts (same_size r.size size.Operand) (is_without_w r.before) two in
-             let chosen : r.size ≡ size.Operand = same_size-true r.size size.Operand others.0 in
-             let P : Size → Type 0 = λ s. width_of f s ≢ width.Quad in
-             subst P (sym chosen) (operand_width-not_quad f (without_w r.before f others.1 (front_allowed f r (get_or rest 0 0) st.allowed)))) ] in
+    elim (or_cases (is_byte r.size) (same_size r.size size.Operand && is_without_w r.before) parts.1) [
+      | inl one ↦ byte_not_quad f r.size one
+      | inr two ↦
+          (let others = and_parts (same_size r.size size.Operand) (is_without_w r.before) two in
+          let chosen : r.size ≡ size.Operand = same_size-true r.size size.Operand others.0 in
+          let P : Size → Type 0 = λ s. width_of f s ≢ width.Quad in
+          subst P (sym chosen) (operand_width-not_quad f (without_w r.before f others.1 (front_allowed f r (get_or rest 0 0) st.allowed))))
+    ] in
     (narrow, stored_is f r rest r.size r.to st.bytes parts.0)
 
 changed_is : (f : Front) (r : Row) (rest : List ℕ) → Stands f r rest → (stored r.size r.to && locks r) ≡ true →
@@ -457,15 +466,23 @@ named_is : (f : Front) (r : Row) (rest : List ℕ) (n : Name) → Stands f r res
     IsFormed (named n (width_of f r.size) (operand_at f r rest r.to) (operand_at f r rest r.from) (operand_at f r rest r.by) f.lock)
 named_is f r rest (name.Alu o) st h =
     let parts = and_parts (is_pair r.size r.to r.from) (locks r && (is_never r.lock || not (is_compare o))) h in
-    let others = and_parts (locks r) (is_never r.lock || not (is_compare o)) parts.1 in
-    (pair_is f r rest st.bytes parts.0, (locks_is f r rest st others.0,
-      λ locked. compare_free o (not-true (is_compare o) (first_of_two (is_never r.lock) (not (is_compare o)) others.1 (not_never f r rest st locked)))))
+    let others = and_parts (locks r) (is_never r.lock || not (is_compare o)) parts.1 in (
+      pair_is f r rest st.bytes parts.0,
+      (
+        locks_is f r rest st others.0,
+        λ locked. compare_free o (not-true (is_compare o) (first_of_two (is_never r.lock) (not (is_compare o)) others.1 (not_never f r rest st locked))),
+      ),
+    )
 named_is f r rest name.Test st h = pair_is f r rest st.bytes h
 named_is f r rest name.Xchg st h =
     let parts = and_parts (stored r.size r.to) (in_register r.size r.from && locks r) h in
-    let others = and_parts (in_register r.size r.from) (locks r) parts.1 in
-    (stored_is f r rest r.size r.to st.bytes parts.0, (register_is f r rest r.size r.from others.0,
-      or_memory f.lock (is_in_memory (operand_at f r rest r.to)) (locks_is f r rest st others.1)))
+    let others = and_parts (in_register r.size r.from) (locks r) parts.1 in (
+      stored_is f r rest r.size r.to st.bytes parts.0,
+      (
+        register_is f r rest r.size r.from others.0,
+        or_memory f.lock (is_in_memory (operand_at f r rest r.to)) (locks_is f r rest st others.1),
+      ),
+    )
 named_is f r rest name.Mov st h = pair_is f r rest st.bytes h
 named_is f r rest name.Lea st h =
     let parts = and_parts (not (is_byte r.size)) (in_register r.size r.to && must_be_memory r.from) h in
@@ -478,9 +495,10 @@ named_is f r rest name.MovSxd st h =
     let parts = and_parts (in_register size.Quad r.to) (stored size.Long r.from) h in
     (register_is f r rest size.Quad r.to parts.0, stored_is f r rest size.Long r.from st.bytes parts.1)
 named_is f r rest name.Push st h =
-    elim (or_cases (stored size.Quad r.to) (is_distance r) h)
-    [ inl one ↦ inl (stored_is f r rest size.Quad r.to st.bytes one)
-    | inr two ↦ inr (quad_number f r rest st.bytes two) ]
+    elim (or_cases (stored size.Quad r.to) (is_distance r) h) [
+      | inl one ↦ inl (stored_is f r rest size.Quad r.to st.bytes one)
+      | inr two ↦ inr (quad_number f r rest st.bytes two)
+    ]
 named_is f r rest name.Pop st h = stored_is f r rest size.Quad r.to st.bytes h
 named_is f r rest name.Leave st h = tt
 named_is f r rest name.Ret st h = tt
@@ -519,9 +537,13 @@ named_is f r rest name.Cmpxchg st h =
     let parts = and_parts (must_be_memory r.to) (in_register r.size r.from && is_always r.lock) h in
     let others = and_parts (in_register r.size r.from) (is_always r.lock) parts.1 in
     let m : is_memory (get_or rest 0 0) ≡ true = is_memory-must f r (get_or rest 0 0) st.allowed (to_asks r (must_ask r.to parts.0)) (inl parts.0) in
-    let rm : is_rm r.to ≡ true = must_rm r.to parts.0 in
-    (must_is f r rest r.to st.bytes parts.0 m, (register_is f r rest r.size r.from others.0,
-      always_is f r rest st rm others.1 ∙ (rm_is f r rest r.to rm ∙ m)))
+    let rm : is_rm r.to ≡ true = must_rm r.to parts.0 in (
+      must_is f r rest r.to st.bytes parts.0 m,
+      (
+        register_is f r rest r.size r.from others.0,
+        always_is f r rest st rm others.1 ∙ (rm_is f r rest r.to rm ∙ m),
+      ),
+    )
 named_is f r rest name.Xadd st h =
     let parts = and_parts (stored r.size r.to && is_rm r.to) (in_register r.size r.from && is_always r.lock) h in
     let first = and_parts (stored r.size r.to) (is_rm r.to) parts.0 in

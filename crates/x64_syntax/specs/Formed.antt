@@ -1,9 +1,10 @@
 -- What an instruction's operands can be: each instruction that bytes spell is formed so.
-use Rattle.std.specs.Prelude.{◌≡◌, ◌≢◌, ◌⊎◌, ◌<◌, ◌^◌, ℕ, Bool, true, false, None, IfSome}
-use Rattle.x64_syntax.specs.declared.instr.AluOp.{AluOp}
+use Rattle.std.specs.Prelude.{◌≡◌, ◌≢◌, ◌⊎◌, ◌<◌, ◌^◌, ℕ, Bool, true, false, None, IfSome, IsSome}
 use Rattle.x64_syntax.specs.declared.instr.AluOp.TheVariants as op
 use Rattle.x64_syntax.specs.declared.instr.Instr.{Instr}
 use Rattle.x64_syntax.specs.declared.instr.Instr.TheVariants as instr
+use Rattle.x64_syntax.specs.declared.placed.Flow.{Flow}
+use Rattle.x64_syntax.specs.declared.placed.Flow.TheVariants as flow
 use Rattle.x64_syntax.specs.declared.operand.Cond.{Cond}
 use Rattle.x64_syntax.specs.declared.operand.Mem.{Mem}
 use Rattle.x64_syntax.specs.declared.operand.Operand.{Operand}
@@ -108,3 +109,18 @@ IsFormed instr.Pause = Unit {0}
 IsFormed instr.Endbr = Unit {0}
 IsFormed instr.Mfence = Unit {0}
 IsFormed instr.Ud2 = Unit {0}
+
+-- memory that an index alone chooses, by eights from an address on: an entry of a table of addresses
+abbrev pub IsTableEntry : Operand → Type 0
+IsTableEntry (operand.Mem m) = (m.base ≡ None) × (IsSome m.index × ((m.scale ≡ 8) × (m.rip ≡ false)))
+IsTableEntry _ = ⊥
+
+-- a flow that an instruction can have: listed functions are called or jumped to directly, and a table is jumped through
+abbrev pub IsFlowOf : Instr → Flow → Type 0
+IsFlowOf i flow.Plain = Unit {0}
+IsFlowOf (instr.Call d) flow.ListedIn = Unit {0}
+IsFlowOf (instr.Call d) flow.ListedOut = Unit {0}
+IsFlowOf (instr.Jmp d) flow.ListedIn = Unit {0}
+IsFlowOf (instr.Jmp d) flow.ListedOut = Unit {0}
+IsFlowOf (instr.JmpInd to) flow.TableJump = IsTableEntry to
+IsFlowOf i f = ⊥
