@@ -1,0 +1,12 @@
+pub mod Sizes
+pub mod Codes
+pub mod Merges
+pub mod RowReadings
+pub mod FrontLemmas
+pub mod TableFacts
+pub mod Readings
+pub mod Law
+pub mod AnswerLemmas
+pub mod CallerLemmas
+pub mod FormedLemmas
+pub mod RowForms
