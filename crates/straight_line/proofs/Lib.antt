@@ -1,0 +1,9 @@
+pub mod Banks
+pub mod Lists
+pub mod Lifted
+pub mod Fenced
+pub mod Selected
+pub mod Unfolding
+pub mod LineUnfolds
+pub mod WordsUnfold
+pub mod LineCarried

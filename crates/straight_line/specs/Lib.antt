@@ -1,0 +1,4 @@
+pub mod Line
+pub mod Steps
+pub mod Passes
+pub mod Carried
