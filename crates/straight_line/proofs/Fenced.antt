@@ -1,13 +1,13 @@
 -- Fences keep accesses with their places.
-use Rattle.std.proofs.Common.{◌≡◌, ℕ, zero, suc, ◌+◌, ◌^◌, ◌%◌, ◌<◌, List, [], ◌∷◌, ◌++◌, refl, sym, ap, ◌∙◌, subst, arith}
+use Rattle.std.proofs.Common.{List, [], ◌∷◌, refl, sym, subst, arith}
 use Rattle.std.specs.List.{AllByRecursion, flat_map}
 use Rattle.ev_graph.specs.declared.events.FenceKind.TheVariants.{Frm, Fww}
-use Rattle.behavior.specs.Tree.{Tree, Gives, Begins, Next, Goes, Stops, ◌then◌}
-use Rattle.behavior.specs.Acts.{Bank, put, Permission, goes, reads, writes, fences_at}
+use Rattle.behavior.specs.Tree.{◌then◌}
+use Rattle.behavior.specs.Acts.{Bank, put, Permission, goes}
 use Rattle.behavior.specs.Seen.{placed}
-use Rattle.behavior.specs.Kept.{SameNext, both-go, both-stop, Keeps}
+use Rattle.behavior.specs.Kept.{SameNext, both-go, Keeps}
 use Rattle.behavior.proofs.SeenLemmas.{sees-placed}
-use Rattle.behavior.proofs.Beside.{Beside, give, earn, spend, act, beside_keeps}
+use Rattle.behavior.proofs.Beside.{Beside, give, earn, spend, beside_keeps}
 use Rattle.behavior.proofs.ActsLemmas.{beside_reads, beside_writes, beside_fences, beside_target_fence}
 use Rattle.behavior.proofs.KeepsLemmas.{keeps_then}
 use Rattle.straight_line.specs.declared.steps.Step.{Step}

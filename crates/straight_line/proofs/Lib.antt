@@ -3,7 +3,5 @@ pub mod Lists
 pub mod Lifted
 pub mod Fenced
 pub mod Selected
-pub mod Unfolding
 pub mod LineUnfolds
-pub mod WordsUnfold
 pub mod LineCarried

@@ -1,13 +1,13 @@
 -- Lifting keeps the meaning: instruction by instruction, and of a line.
-use Rattle.std.proofs.Common.{◌≡◌, ◌≢◌, ℕ, zero, suc, ◌+◌, ◌%◌, ◌^◌, ◌<◌, ◌≤◌, List, [], ◌∷◌, ◌++◌, refl, sym, ap, ◌∙◌, subst, arith}
+use Rattle.std.proofs.Common.{◌≡◌, ◌≢◌, ℕ, ◌+◌, ◌%◌, ◌^◌, ◌<◌, List, [], ◌∷◌, refl, sym, ap, ◌∙◌, subst, arith}
 use Rattle.std.proofs.lemmas.List.{append-nil}
 use Rattle.std.specs.List.{AllByRecursion, flat_map}
-use Rattle.behavior.specs.Tree.{Tree, Gives, Begins, Next, Goes, Stops, ◌then◌}
+use Rattle.behavior.specs.Tree.{Tree, Begins, Next, ◌then◌}
 use Rattle.behavior.specs.Acts.{Bank, put, Permission, goes, reads, writes}
 use Rattle.behavior.specs.Seen.{placed}
-use Rattle.behavior.specs.Kept.{SameNext, both-go, both-stop, Keeps}
+use Rattle.behavior.specs.Kept.{SameNext, both-go, Keeps}
 use Rattle.behavior.proofs.SeenLemmas.{sees-placed}
-use Rattle.behavior.proofs.Beside.{Beside, give, earn, spend, act, beside_keeps}
+use Rattle.behavior.proofs.Beside.{Beside, give, earn, spend, beside_keeps}
 use Rattle.behavior.proofs.ActsLemmas.{beside_reads, beside_writes}
 use Rattle.behavior.proofs.KeepsLemmas.{keeps_then}
 use Rattle.x64_table.specs.declared.narrow.Narrow.{Narrow}
@@ -15,11 +15,11 @@ use Rattle.x64_table.specs.declared.narrow.Narrow.TheVariants as instrs
 use Rattle.x64_table.specs.declared.narrow.PlacedNarrow.{PlacedNarrow}
 use Rattle.x64_table.specs.Machine.{X64, Exit, State, Return, after, x64_row}
 use Rattle.straight_line.specs.declared.steps.Step.{Step}
-use Rattle.straight_line.specs.declared.steps.Step.TheVariants.{Copy, Number, Load, Store, Add}
+use Rattle.straight_line.specs.declared.steps.Step.TheVariants.{Add}
 use Rattle.straight_line.specs.Line.{StandFrom, ReturnsLast, IsNarrow, HoldsNarrow, IsStraight, on_state, x64_rows}
 use Rattle.straight_line.specs.Steps.{ir_step, ir_steps, IsStep}
 use Rattle.straight_line.specs.Passes.{lifted_narrow, lifted, SameRegisters, Returned, LiftsLine}
-use Rattle.straight_line.proofs.Banks.{put_same, put_fit, put_here, put_other}
+use Rattle.straight_line.proofs.Banks.{put_same, put_fit, put_other}
 use Rattle.straight_line.proofs.Lists.{steps-append, rows-cons, all_append}
 
 -- the line has come to this address, with the same in its registers

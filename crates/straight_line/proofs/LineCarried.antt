@@ -1,18 +1,16 @@
 -- The passes one behind the other carry a line.
-use Rattle.std.proofs.Common.{◌≡◌, ◌≢◌, ℕ, zero, suc, ◌+◌, ◌*◌, ◌%◌, ◌^◌, ◌<◌, ◌≤◌, ◌==◌, Bool, true, false, List, [], ◌∷◌, ◌++◌, map, length, Option, Some, None, inl, refl, sym, ap, ◌∙◌, subst, arith, length-append}
+use Rattle.std.proofs.Common.{◌≡◌, ℕ, ◌+◌, ◌*◌, ◌^◌, ◌<◌, ◌==◌, Bool, true, false, List, [], ◌∷◌, ◌++◌, map, length, refl, sym, ap, ◌∙◌, subst, arith}
 use Rattle.std.proofs.lemmas.List.{length-map}
 use Rattle.std.specs.Prelude.{if◌then◌else◌, pos}
-use Rattle.std.specs.List.{AllByRecursion, flat_map}
+use Rattle.std.specs.List.{AllByRecursion}
 use Rattle.std.proofs.lemmas.Int.{ints}
-use Rattle.ev_graph.specs.declared.events.End.TheVariants.{Halted}
-use Rattle.ev_graph.specs.declared.events.TrapKind.TheVariants.{BadReturn}
-use Rattle.behavior.specs.Tree.{Tree, Gives, Begins, Acts, Next, Goes, Stops, ◌then◌}
-use Rattle.behavior.specs.Acts.{Bank, Permission, goes, traps}
+use Rattle.behavior.specs.Tree.{Tree, Next, ◌then◌}
+use Rattle.behavior.specs.Acts.{Permission}
 use Rattle.behavior.specs.Seen.{trace, placed, lowered}
-use Rattle.behavior.specs.Kept.{Backward, Forward, SameNext, both-go, both-stop, Keeps, Through}
+use Rattle.behavior.specs.Kept.{SameNext, both-stop, Keeps, Through}
 use Rattle.behavior.proofs.Paths.{then-assoc}
 use Rattle.behavior.proofs.SeenLemmas.{sees-trace, placed-to_trace, lowered-to_trace}
-use Rattle.behavior.proofs.Beside.{Beside, give, earn, spend, beside_keeps}
+use Rattle.behavior.proofs.Beside.{Beside, give, spend, beside_keeps}
 use Rattle.behavior.proofs.KeepsLemmas.{keeps_through, keeps_wider, keeps_coarser, keeps_faster, keeps_first, keeps_then_more, next_through, next_wider}
 use Rattle.behavior.proofs.Blocks.{Unfolds, AreBlocks, Advances, begins_advances, blocks_forward, blocks_backward}
 use Rattle.x64_table.specs.declared.narrow.PlacedNarrow.{PlacedNarrow}
@@ -21,17 +19,15 @@ use Rattle.a64_table.specs.declared.narrow.XReg.{XReg}
 use Rattle.a64_table.specs.declared.narrow.A64.{A64}
 use Rattle.a64_table.specs.declared.narrow.A64.TheVariants as words
 use Rattle.a64_table.specs.Words.{InRange, word_of}
-use Rattle.a64_table.specs.Rows.{xregs, low, AState, value, a64_words}
+use Rattle.a64_table.specs.Rows.{xregs, low, AState, value, IsForward, a64_words}
 use Rattle.a64_table.specs.Machine.{AThread, a64_step}
+use Rattle.a64_table.proofs.MachineLemmas.{words-append, lands, words_unfold, words_stand}
 use Rattle.straight_line.specs.declared.steps.Step.{Step}
 use Rattle.straight_line.specs.Line.{IsStraight, placed_in, x64_rows}
-use Rattle.straight_line.specs.Steps.{ir_steps, IsStep}
-use Rattle.straight_line.specs.Passes.{SameRegisters, Returned, LiftsLine, IsFenced, IsSameBank, KeepsPlaced, x, SameNamed, Selected, SelectsWords, IsForward, ending}
+use Rattle.straight_line.specs.Passes.{SameRegisters, Returned, LiftsLine, IsSameBank, KeepsPlaced, x, SameNamed, Selected, SelectsWords, ending}
 use Rattle.straight_line.specs.Carried.{Starts, CarriesLine}
 use Rattle.straight_line.proofs.Lists.{all_append}
-use Rattle.straight_line.proofs.Selected.{words-append}
 use Rattle.straight_line.proofs.LineUnfolds.{line_unfolds, line_stands}
-use Rattle.straight_line.proofs.WordsUnfold.{lands, words_unfold, words_stand}
 
 -- a return and the words behind it: X16 has the popped address
 abbrev Popped : Exit → ℕ × AState → Type 0
@@ -111,7 +107,7 @@ threads_keep first code p ps ws passes may s t starts =
     let end = code + 4 * length (ws ++ ending) in
     let rows = rows_keep first code (p ∷ ps) ws passes may s t starts in
     let both = keeps_then_more trace sees-trace 24 0 2 Popped Never (resolve no_sites) (λ r. a64_words xregs may (code + 4 * length ws) ending r.0 r.1 then lands end)
-          (ends_keep may (code + 4 * length ws) end) rows in
+    (ends_keep may (code + 4 * length ws) end) rows in
     let whole = subst (λ u. Keeps trace 24 2 (SameNext Never) (x64_rows may (p ∷ ps) s then resolve no_sites) u) (code_parts may code end ws t.state) both in
     let paid = keeps_first trace 24 2 (SameNext Never) whole in
     let faster = keeps_faster trace 26 256 0 (SameNext Never) (omega arith) paid in
@@ -123,7 +119,8 @@ source_blocks : (may : Permission) (first : ℕ) (p : PlacedNarrow) (ps : List P
     → AreBlocks (x64_step may (placed_in (p ∷ ps)) no_sites) (λ (s : X64). s.at ≡ first) (λ s. x64_rows may (p ∷ ps) s then resolve no_sites)
 source_blocks may first p ps straight = record {
   unfolds = λ s at. line_unfolds may (placed_in (p ∷ ps)) no_sites p ps first straight.stands (line_stands first (p ∷ ps) straight.stands) s at;
-  advances = λ s at. begins_advances _ }
+  advances = λ s at. begins_advances _;
+}
 
 abbrev Forwards : List (A64 XReg) → Type 0
 Forwards ws = AllByRecursion IsForward (ws ++ ending)
@@ -142,8 +139,9 @@ target_blocks : (may : Permission) (code : ℕ) (ws : List (A64 XReg)) → AllBy
     → AreBlocks (a64_step may code (map word_of (ws ++ ending))) (λ (t : AThread). t.at ≡ code) (code_tree may code ws)
 target_blocks may code ws range forward low = record {
   unfolds = λ t at. subst (λ a. Unfolds (a64_step may code (map word_of (ws ++ ending))) (a64_step may code (map word_of (ws ++ ending)) (record { at = a; state = t.state })) (code_tree may code ws t)) (sym at)
-    (target_unfolds may code ws range forward low t.state);
-  advances = λ t at. target_advances may code ws t }
+      (target_unfolds may code ws range forward low t.state);
+  advances = λ t at. target_advances may code ws t;
+}
 
 leads : (first code : ℕ) (s : X64) (t : AThread) → Starts first code s t → (s.at ≡ first) × (t.at ≡ code)
 leads first code s t starts = (starts.source_at, starts.target_at)
@@ -152,9 +150,10 @@ carries_cons : (first code : ℕ) (p : PlacedNarrow) (ps : List PlacedNarrow) (w
     → AllByRecursion InRange (ws ++ ending) → Forwards ws → code + 4 * length (ws ++ ending) < 2 ^ 63 → CarriesLine first (p ∷ ps) code (map word_of (ws ++ ending))
 carries_cons first code p ps ws straight passes range forward low = record {
   backward = λ may s t starts. blocks_backward 256 (Starts first code) (x64_step may (placed_in (p ∷ ps)) no_sites) (λ s. x64_rows may (p ∷ ps) s then resolve no_sites) (λ s. s.at ≡ first) (source_blocks may first p ps straight)
-    (a64_step may code (map word_of (ws ++ ending))) (code_tree may code ws) (λ t. t.at ≡ code) (target_blocks may code ws range forward low) (leads first code) (threads_keep first code p ps ws passes may) s t starts;
+      (a64_step may code (map word_of (ws ++ ending))) (code_tree may code ws) (λ t. t.at ≡ code) (target_blocks may code ws range forward low) (leads first code) (threads_keep first code p ps ws passes may) s t starts;
   forward = λ may s t starts. blocks_forward 256 (Starts first code) (x64_step may (placed_in (p ∷ ps)) no_sites) (λ s. x64_rows may (p ∷ ps) s then resolve no_sites) (λ s. s.at ≡ first) (source_blocks may first p ps straight)
-    (a64_step may code (map word_of (ws ++ ending))) (code_tree may code ws) (λ t. t.at ≡ code) (target_blocks may code ws range forward low) (leads first code) (threads_keep first code p ps ws passes may) s t starts }
+      (a64_step may code (map word_of (ws ++ ending))) (code_tree may code ws) (λ t. t.at ≡ code) (target_blocks may code ws range forward low) (leads first code) (threads_keep first code p ps ws passes may) s t starts;
+}
 
 carries_line : (first code : ℕ) (line : List PlacedNarrow) (ws : List (A64 XReg)) → IsStraight first line → Passes first line ws
     → AllByRecursion InRange (ws ++ ending) → Forwards ws → code + 4 * length (ws ++ ending) < 2 ^ 63 → CarriesLine first line code (map word_of (ws ++ ending))
@@ -171,5 +170,5 @@ pub carries : (first code : ℕ) (line : List PlacedNarrow) (steps with_fences :
 carries first code line steps with_fences ws laid straight lifts fences selects range forward same below =
     let long : length laid ≡ length (ws ++ ending) = ap length same ∙ length-map (ws ++ ending) word_of in
     let whole = carries_line first code line ws straight (record { steps = steps; with_fences = with_fences; lifts = lifts; fences = fences; selects = selects })
-          (all_append InRange ws ending range ending_range) (all_append IsForward ws ending forward ((1, refl, omega arith), (tt, (tt, tt)))) (omega (arith, below, long)) in
+    (all_append InRange ws ending range ending_range) (all_append IsForward ws ending forward ((1, refl, omega arith), (tt, (tt, tt)))) (omega (arith, below, long)) in
     subst (λ l. CarriesLine first line code l) (sym same) whole

@@ -1,42 +1,22 @@
 -- The x86 machine takes the instructions of a line one behind the other.
-use Rattle.std.proofs.Common.{◌≡◌, ◌≢◌, ℕ, zero, suc, ◌+◌, ◌%◌, ◌^◌, ◌<◌, ◌≤◌, ◌==◌, Bool, true, false, List, [], ◌∷◌, ◌++◌, Option, Some, None, refl, sym, ap, ◌∙◌, subst, arith}
+use Rattle.std.proofs.Common.{◌≡◌, ◌≢◌, ℕ, ◌+◌, ◌%◌, ◌^◌, ◌<◌, ◌==◌, Bool, false, List, [], ◌∷◌, Option, Some, refl, sym, ap, ◌∙◌, subst, arith}
 use Rattle.std.specs.Prelude.{if◌then◌else◌}
-use Rattle.std.proofs.lemmas.Bool.{eqb-true, eq-eqb}
+use Rattle.std.proofs.lemmas.Bool.{eq-eqb}
 use Rattle.std.proofs.lemmas.Bool.Decides.{nat_tests}
-use mathlib.Core.Path.{fun_ext}
-use Rattle.ev_graph.specs.declared.events.TrapKind.TheVariants.{BadAccess}
-use Rattle.ev_graph.specs.declared.events.AccessKind.TheVariants.{Read, Write}
-use Rattle.behavior.specs.Tree.{Tree, Gives, Begins, Acts, Next, Goes, Stops, ◌then◌}
-use Rattle.behavior.specs.Acts.{put, Permission, goes, traps, access, makes, reads, writes}
+use Rattle.behavior.specs.Tree.{Tree, Gives, Begins, Next, Goes, ◌then◌}
+use Rattle.behavior.specs.Acts.{Permission}
 use Rattle.behavior.proofs.Paths.{then-assoc}
-use Rattle.behavior.proofs.Blocks.{Unfolds, block-ends, block-goes, block-begins, block-acts}
-use Rattle.x64_table.specs.declared.narrow.Narrow.{Narrow}
-use Rattle.x64_table.specs.declared.narrow.Narrow.TheVariants as instrs
+use Rattle.behavior.proofs.Blocks.{Unfolds, block-ends, block-goes, block-begins}
 use Rattle.x64_table.specs.declared.narrow.PlacedNarrow.{PlacedNarrow}
-use Rattle.x64_table.specs.Machine.{X64, Exit, State, Return, after, x64_row, resolve, x64_take, x64_step}
+use Rattle.x64_table.specs.Machine.{X64, Exit, State, Return, x64_row, resolve, x64_take, x64_step}
 use Rattle.straight_line.specs.Line.{StandFrom, placed_in, on_state, x64_rows}
-use Rattle.straight_line.proofs.Unfolding.{AllResults, results_choice, unfolds_self, unfolds_then}
+use Rattle.behavior.proofs.Unfolding.{unfolds_self, unfolds_then}
+use Rattle.x64_table.proofs.MachineLemmas.{IsBehind, row_behind}
 
 -- each instruction of the line is what stands at its address
 abbrev pub Stand : (ℕ → Option PlacedNarrow) → List PlacedNarrow → Type 0
 Stand placed [] = Unit {0}
 Stand placed (p ∷ ps) = (placed p.address ≡ Some p) × Stand placed ps
-
--- a row that goes on leaves the address after the instruction
-abbrev IsBehind : ℕ → Exit → Type 0
-IsBehind at (State t) = t.at ≡ at
-IsBehind at (Return t v) = Unit {0}
-
-row_behind : (may : Permission) (instr : Narrow) (length : ℕ) (s : X64) → AllResults (IsBehind ((s.at + length) % 2 ^ 64)) (x64_row may instr length s)
-row_behind may (instrs.Move to from) length s = refl
-row_behind may (instrs.Load to base) length s =
-    results_choice (IsBehind ((s.at + length) % 2 ^ 64)) (may false (s.regs base) 8) (Acts (256 ^ 8) (λ v. access Read false s.at (s.regs base) 8 v ∷ []) (λ v. goes (State (after length (put to v s.regs) s)))) (traps BadAccess) (λ v lt. refl) tt
-row_behind may (instrs.Store base from) length s =
-    results_choice (IsBehind ((s.at + length) % 2 ^ 64)) (may true (s.regs base) 8) (makes (access Write false s.at (s.regs base) 8 (s.regs from % 256 ^ 8)) (goes (State (after length s.regs s)))) (traps BadAccess) (λ v lt. refl) tt
-row_behind may (instrs.Move32 to n) length s = refl
-row_behind may (instrs.Move64 to n) length s = refl
-row_behind may instrs.Ret length s =
-    results_choice (IsBehind ((s.at + length) % 2 ^ 64)) (may false (s.regs 4) 8) (Acts (256 ^ 8) (λ v. access Read false s.at (s.regs 4) 8 v ∷ []) (λ v. goes (Return (after length (put 4 ((s.regs 4 + 8) % 2 ^ 64) s.regs) s) v))) (traps BadAccess) (λ v lt. tt) tt
 
 -- addresses stay below 2^64
 start_below : (at : ℕ) (line : List PlacedNarrow) → StandFrom at line → at < 2 ^ 64

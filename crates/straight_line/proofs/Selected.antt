@@ -1,48 +1,32 @@
 -- Selection keeps fences: step by step, and of a list.
-use Rattle.std.proofs.Common.{◌≡◌, ◌≢◌, ℕ, zero, suc, ◌+◌, ◌-◌, ◌*◌, ◌/◌, ◌%◌, ◌^◌, ◌<◌, ◌≤◌, ◌==◌, Bool, true, false, List, [], ◌∷◌, ◌++◌, length, Option, Some, None, inl, inr, refl, sym, ap, ◌∙◌, subst, arith, length-append}
-use Rattle.std.specs.Prelude.{if◌then◌else◌, bit_or, pos}
+use Rattle.std.proofs.Common.{◌≡◌, ◌≢◌, ℕ, suc, ◌+◌, ◌*◌, ◌%◌, ◌^◌, ◌<◌, ◌==◌, Bool, true, false, List, [], ◌∷◌, ◌++◌, length, Some, None, inl, inr, refl, sym, ap, ◌∙◌, subst, arith}
+use Rattle.std.specs.Prelude.{if◌then◌else◌, bit_or}
 use Rattle.std.specs.List.{AllByRecursion, flat_map}
 use Rattle.std.specs.Int.Bits.{or_zero_l}
-use mathlib.Core.Path.{fun_ext}
 use Rattle.std.proofs.lemmas.List.{append-nil}
 use Rattle.std.proofs.lemmas.Bool.{eqb-true}
 use Rattle.std.proofs.lemmas.Bool.Decides.{nat_tests}
 use Rattle.ev_graph.specs.declared.events.FenceKind.TheVariants.{Frm, Fww, DmbLd, DmbSt}
-use Rattle.behavior.specs.Tree.{Tree, Gives, Begins, Acts, Next, Goes, Stops, ◌then◌}
-use Rattle.behavior.specs.Acts.{Bank, put, Permission, goes, reads, writes, fences_at}
+use Rattle.behavior.specs.Tree.{Tree, Next, ◌then◌}
+use Rattle.behavior.specs.Acts.{Bank, put, Permission, goes, reads, writes}
 use Rattle.behavior.specs.Seen.{lowered}
-use Rattle.behavior.specs.Kept.{SameNext, both-go, both-stop, Keeps}
-use Rattle.behavior.proofs.Paths.{then-assoc}
+use Rattle.behavior.specs.Kept.{SameNext, both-go, Keeps}
 use Rattle.behavior.proofs.SeenLemmas.{sees-lowered}
-use Rattle.behavior.proofs.Beside.{Beside, give, earn, spend, act, beside_keeps, more_credit}
+use Rattle.behavior.proofs.Beside.{Beside, give, earn, spend, beside_keeps, more_credit}
 use Rattle.behavior.proofs.ActsLemmas.{beside_reads, beside_writes, beside_fences}
 use Rattle.behavior.proofs.KeepsLemmas.{keeps_then}
 use Rattle.a64_table.specs.declared.narrow.XReg.{XReg}
 use Rattle.a64_table.specs.declared.narrow.A64.{A64}
 use Rattle.a64_table.specs.declared.narrow.A64.TheVariants as words
 use Rattle.a64_table.specs.Words.{InRange}
-use Rattle.a64_table.specs.Rows.{Nzcv, Done, xregs, low, shifted, with_quarter, gets, a64_row, a64_result, AState, value, after, ahead, a64_words}
+use Rattle.a64_table.specs.Rows.{Nzcv, Done, xregs, low, shifted, with_quarter, gets, AState, value, after, ahead, IsForward, a64_words}
+use Rattle.a64_table.proofs.MachineLemmas.{words-append}
 use Rattle.straight_line.specs.declared.steps.Step.{Step}
 use Rattle.straight_line.specs.declared.steps.Step.TheVariants.{Copy, Number, Load, Store, Add, ReadFence, WriteFence}
-use Rattle.straight_line.specs.Steps.{ir_step, ir_steps, IsStep}
-use Rattle.straight_line.specs.Passes.{x, quarter_word, quarter_of, selected, SameNamed, Selected, SelectsWords, IsForward}
+use Rattle.straight_line.specs.Steps.{ir_steps, IsStep}
+use Rattle.straight_line.specs.Passes.{x, quarter_word, quarter_of, selected, SameNamed, Selected, SelectsWords}
 use Rattle.straight_line.proofs.Banks.{put_same, put_fit, put_here, put_other}
 use Rattle.straight_line.proofs.Lists.{steps-append, all_append}
-
--- words, and then more words
-pub words-append : (may : Permission) (ws vs : List (A64 XReg)) (at skip : ℕ) (s : AState)
-    → a64_words xregs may at (ws ++ vs) skip s ≡ (a64_words xregs may at ws skip s then (λ r. a64_words xregs may (at + 4 * length ws) vs r.0 r.1))
-words-append may [] vs at skip s = let e : at + 4 * 0 ≡ at = omega arith in ap (λ a. a64_words xregs may a vs skip s) (sym e)
-words-append may (w ∷ ws) vs at (suc skip) s =
-    let e : at + 4 + 4 * length ws ≡ at + 4 * length (w ∷ ws) = omega arith in
-    words-append may ws vs (at + 4) skip s ∙ ap (λ a. a64_words xregs may (at + 4) ws skip s then (λ r. a64_words xregs may a vs r.0 r.1)) e
-words-append may (w ∷ ws) vs at zero s =
-    let e : at + 4 + 4 * length ws ≡ at + 4 * length (w ∷ ws) = omega arith in
-    let row = Begins (a64_row xregs may at w (value xregs s) s.nzcv) in
-    let on : Done → Tree (Next (ℕ × AState)) = λ d. a64_words xregs may (at + 4) ws (ahead d.distance) (after xregs (a64_result xregs w) d s) in
-    ap (λ f. row then f) (fun_ext (λ d. words-append may ws vs (at + 4) (ahead d.distance) (after xregs (a64_result xregs w) d s)
-    ∙ ap (λ a. a64_words xregs may (at + 4) ws (ahead d.distance) (after xregs (a64_result xregs w) d s) then (λ r. a64_words xregs may a vs r.0 r.1)) e))
-    ∙ sym (then-assoc row on (λ r. a64_words xregs may (at + 4 * length (w ∷ ws)) vs r.0 r.1))
 
 -- X0 to X16 are not the zero register
 register_is : (s : AState) (n : ℕ) → n < 17 → value xregs s (x n) ≡ s.regs n
@@ -223,9 +207,11 @@ quarter_forward to bits k false = (tt, tt)
 
 selected_forward : (step : Step) → AllByRecursion IsForward (selected step)
 selected_forward (Copy to from) = (tt, tt)
-selected_forward (Number to n) =
-    (tt, all_append IsForward (quarter_word to (quarter_of n 1) 1) (quarter_word to (quarter_of n 2) 2 ++ quarter_word to (quarter_of n 3) 3) (quarter_forward to (quarter_of n 1) 1 (quarter_of n 1 == 0))
-      (all_append IsForward (quarter_word to (quarter_of n 2) 2) (quarter_word to (quarter_of n 3) 3) (quarter_forward to (quarter_of n 2) 2 (quarter_of n 2 == 0)) (quarter_forward to (quarter_of n 3) 3 (quarter_of n 3 == 0))))
+selected_forward (Number to n) = (
+  tt,
+  all_append IsForward (quarter_word to (quarter_of n 1) 1) (quarter_word to (quarter_of n 2) 2 ++ quarter_word to (quarter_of n 3) 3) (quarter_forward to (quarter_of n 1) 1 (quarter_of n 1 == 0))
+      (all_append IsForward (quarter_word to (quarter_of n 2) 2) (quarter_word to (quarter_of n 3) 3) (quarter_forward to (quarter_of n 2) 2 (quarter_of n 2 == 0)) (quarter_forward to (quarter_of n 3) 3 (quarter_of n 3 == 0))),
+)
 selected_forward (Load to address place) = (tt, tt)
 selected_forward (Store address from place) = (tt, tt)
 selected_forward (Add to from n) = (tt, tt)

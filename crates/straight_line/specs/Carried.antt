@@ -1,5 +1,5 @@
 -- What it means that words carry a straight line.
-use Rattle.std.specs.Prelude.{◌≡◌, ℕ, ◌+◌, ◌*◌, ◌^◌, ◌<◌, ◌%◌, List, length}
+use Rattle.std.specs.Prelude.{◌≡◌, ℕ, ◌^◌, ◌<◌, List}
 use Rattle.behavior.specs.Acts.{Permission}
 use Rattle.behavior.specs.Kept.{Backward, Forward}
 use Rattle.x64_table.specs.declared.narrow.PlacedNarrow.{PlacedNarrow}

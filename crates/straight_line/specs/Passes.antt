@@ -1,6 +1,6 @@
 -- What each pass writes, and what it keeps.
-use Rattle.std.specs.Prelude.{◌≡◌, ℕ, suc, ℤ, ◌+◌, ◌*◌, ◌/◌, ◌%◌, ◌^◌, ◌<◌, ◌==◌, Bool, true, false, List, [], ◌∷◌, ◌++◌, map, if◌then◌else◌, pos}
-use Rattle.std.specs.List.{AllByRecursion, flat_map}
+use Rattle.std.specs.Prelude.{◌≡◌, ℕ, ◌*◌, ◌/◌, ◌%◌, ◌^◌, ◌<◌, ◌==◌, true, List, [], ◌∷◌, ◌++◌, if◌then◌else◌, pos}
+use Rattle.std.specs.List.{flat_map}
 use Rattle.behavior.specs.Acts.{Bank, Permission}
 use Rattle.behavior.specs.Seen.{placed, lowered}
 use Rattle.behavior.specs.Kept.{SameNext, Keeps}
@@ -14,8 +14,8 @@ use Rattle.a64_table.specs.declared.narrow.A64.TheVariants as words
 use Rattle.a64_table.specs.Rows.{AState, xregs, a64_words}
 use Rattle.straight_line.specs.declared.steps.Step.{Step}
 use Rattle.straight_line.specs.declared.steps.Step.TheVariants.{Copy, Number, Load, Store, Add, ReadFence, WriteFence}
-use Rattle.straight_line.specs.Line.{IsStraight, x64_rows}
-use Rattle.straight_line.specs.Steps.{ir_steps, IsStep}
+use Rattle.straight_line.specs.Line.{x64_rows}
+use Rattle.straight_line.specs.Steps.{ir_steps}
 
 -- ---- lifting
 
@@ -106,15 +106,6 @@ Selected i r = (r.0 ≡ 0) × SameNamed i r.1
 abbrev pub SelectsWords : List Step → List (A64 XReg) → Type 0
 SelectsWords xs ws = (may : Permission) (at : ℕ) (i : Bank) (s : AState) → SameNamed i s
     → Keeps lowered 4 0 (SameNext Selected) (ir_steps may xs i) (a64_words xregs may at ws 0 s)
-
--- a distance goes forward, by no more than 2^20 words
-abbrev pub GoesForward : ℤ → Type 0
-GoesForward distance = (k : ℕ) × (distance ≡ pos (suc k)) × (k < 2 ^ 20)
-
--- the instruction's branch, if it is one, goes forward
-abbrev pub IsForward : A64 XReg → Type 0
-IsForward (words.Cbz x t distance) = GoesForward distance
-IsForward w = Unit {0}
 
 -- ---- layout
 

@@ -1,5 +1,5 @@
 -- What the steps of the intermediate form do.
-use Rattle.std.specs.Prelude.{ℕ, ◌+◌, ◌^◌, ◌%◌, ◌<◌, List, [], ◌∷◌}
+use Rattle.std.specs.Prelude.{◌+◌, ◌^◌, ◌%◌, ◌<◌, List, [], ◌∷◌}
 use Rattle.ev_graph.specs.declared.events.FenceKind.TheVariants.{Frm, Fww}
 use Rattle.behavior.specs.Tree.{Tree, Begins, Next, ◌then◌}
 use Rattle.behavior.specs.Acts.{Bank, put, Permission, goes, reads, writes, fences_at}

@@ -1,7 +1,8 @@
 ghost use Rattle.std.specs.Prelude.{◌≡◌, ◌++◌, ◌<◌, IfOk, OnOk};
 ghost use Rattle.std.specs.List.{flat_map, AllByRecursion};
 ghost use Rattle.a64_table.specs.Words.{InRange};
-ghost use Rattle.straight_line.specs.Passes.{selected, quarter_word, quarter_of, x, SelectsWords, IsForward};
+ghost use Rattle.a64_table.specs.Rows.{IsForward};
+ghost use Rattle.straight_line.specs.Passes.{selected, quarter_word, quarter_of, x, SelectsWords};
 ghost use Rattle.straight_line.specs.Steps.{IsStep};
 
 use crate::steps::Step;

@@ -15,4 +15,4 @@ pub returns-clause-well : goal.returns-clause-well
 returns-clause-well c =
     let steps = c.args.steps.now in
     λ well. IfOk-weaker c.fence_each.result (λ with. with.items ≡ flat_map fenced steps) (λ with. AllByRecursion IsStep with.items)
-      (λ with same. subst (λ l. AllByRecursion IsStep l) (sym same) (fences_well steps well)) c.fence_each.ensures
+    (λ with same. subst (λ l. AllByRecursion IsStep l) (sym same) (fences_well steps well)) c.fence_each.ensures

@@ -2,7 +2,8 @@ use Rattle.std.proofs.lemmas.Result.{IfOk-weaker}
 use Rattle.std.proofs.Common.{◌≡◌, sym, subst}
 use Rattle.std.specs.List.{AllByRecursion, flat_map}
 use Rattle.a64_table.specs.Words.{InRange}
-use Rattle.straight_line.specs.Passes.{selected, SelectsWords, IsForward}
+use Rattle.a64_table.specs.Rows.{IsForward}
+use Rattle.straight_line.specs.Passes.{selected, SelectsWords}
 use Rattle.straight_line.proofs.Selected.{selects, selects_range, selects_forward}
 use Rattle.straight_line.proofs.select.select_words.Goals as goal
 
@@ -15,10 +16,10 @@ pub returns-clause-range : goal.returns-clause-range
 returns-clause-range c =
     let steps = c.args.steps.now in
     IfOk-weaker c.select_each.result (λ words. words.items ≡ flat_map selected steps) (λ words. AllByRecursion InRange words.items)
-      (λ words same. subst (λ l. AllByRecursion InRange l) (sym same) (selects_range steps c.requires)) c.select_each.ensures
+    (λ words same. subst (λ l. AllByRecursion InRange l) (sym same) (selects_range steps c.requires)) c.select_each.ensures
 
 pub returns-clause-forward : goal.returns-clause-forward
 returns-clause-forward c =
     let steps = c.args.steps.now in
     IfOk-weaker c.select_each.result (λ words. words.items ≡ flat_map selected steps) (λ words. AllByRecursion IsForward words.items)
-      (λ words same. subst (λ l. AllByRecursion IsForward l) (sym same) (selects_forward steps)) c.select_each.ensures
+    (λ words same. subst (λ l. AllByRecursion IsForward l) (sym same) (selects_forward steps)) c.select_each.ensures

@@ -1,5 +1,5 @@
 use Rattle.std.proofs.lemmas.Result.{IfOk-weaker}
-use Rattle.std.proofs.Common.{◌≡◌, ℕ, ◌+◌, ◌*◌, ◌^◌, ◌<◌, ◌++◌, map, length, ap, ◌∙◌, subst, arith}
+use Rattle.std.proofs.Common.{◌≡◌, ℕ, ◌+◌, ◌*◌, ◌^◌, ◌<◌, ◌++◌, map, length, ap, ◌∙◌, subst}
 use Rattle.a64_table.specs.Words.{word_of}
 use Rattle.straight_line.specs.Passes.{LiftsLine, KeepsPlaced, SelectsWords, ending}
 use Rattle.straight_line.specs.Carried.{CarriesLine}
@@ -17,5 +17,5 @@ returns c =
     let fences : KeepsPlaced steps fenced_steps = subst (λ l. KeepsPlaced l fenced_steps) c.deref.ensures.value c.in_ok-with_fences.ensures.meaning in
     let selects : SelectsWords fenced_steps ws = subst (λ l. SelectsWords l ws) c.deref-2.ensures.value c.in_ok-words.ensures.meaning in
     IfOk-weaker c.lay_out.result (λ code. code.items ≡ map word_of (c.deref-3.result.now ++ ending)) (λ words. (code : ℕ) → code + 4 * length words.items < 2 ^ 63 → CarriesLine first line code words.items)
-      (λ words same code below. carries first code line steps fenced_steps ws words.items c.requires lifts fences selects c.in_ok-words.ensures.range c.in_ok-words.ensures.forward (same ∙ ap (λ l. map word_of (l ++ ending)) c.deref-3.ensures.value) below)
-      c.lay_out.ensures
+    (λ words same code below. carries first code line steps fenced_steps ws words.items c.requires lifts fences selects c.in_ok-words.ensures.range c.in_ok-words.ensures.forward (same ∙ ap (λ l. map word_of (l ++ ending)) c.deref-3.ensures.value) below)
+    c.lay_out.ensures

@@ -1,29 +1,41 @@
--- The Arm machine takes the words of a code segment one behind the other.
-use Rattle.std.proofs.Common.{◌≡◌, ◌≢◌, ℕ, zero, suc, ◌+◌, ◌-◌, ◌*◌, ◌/◌, ◌%◌, ◌^◌, ◌<◌, ◌≤◌, ◌==◌, ◌&&◌, Bool, true, false, List, [], ◌∷◌, ◌++◌, map, length, Option, Some, None, refl, sym, ap, ◌∙◌, subst, arith, append_assoc, length-append}
-use Rattle.std.specs.Prelude.{if◌then◌else◌, nat_le, slice_get, ℤ, pos, ◌+ℤ◌, ◌*ℤ◌, unsigned_abs}
-use Rattle.std.specs.Int.{int_rem_euclid}
+-- Words in two parts, and the machine that takes the words of a code segment one behind the other.
+use Rattle.std.proofs.Common.{◌≡◌, ℕ, zero, suc, ◌+◌, ◌-◌, ◌*◌, ◌/◌, ◌%◌, ◌^◌, ◌<◌, ◌==◌, ◌&&◌, true, false, List, [], ◌∷◌, ◌++◌, map, length, Option, Some, None, refl, sym, ap, ◌∙◌, subst, arith, append_assoc, length-append}
+use mathlib.Core.Path.{fun_ext}
+use Rattle.std.specs.Prelude.{if◌then◌else◌, nat_le, slice_get, ℤ, pos}
 use Rattle.std.specs.Option.{option_and_then}
 use Rattle.std.specs.List.{AllByRecursion}
-use Rattle.std.proofs.lemmas.Bool.{eqb-true, eq-eqb}
 use Rattle.std.proofs.lemmas.Bool.Decides.{nat_tests}
-use Rattle.std.proofs.lemmas.Int.{ints}
 use Rattle.ev_graph.specs.declared.events.TrapKind.TheVariants.{BadAccess, Divide, Invalid, BadReturn, BadJump}
 use Rattle.ev_graph.specs.declared.events.End.TheVariants.{Halted}
 use Rattle.ev_graph.specs.declared.events.AccessKind.TheVariants.{Read, Write}
 use Rattle.behavior.specs.Tree.{Tree, Gives, Begins, Acts, Next, Goes, Stops, ◌then◌}
-use Rattle.behavior.specs.Acts.{put, Permission, goes, traps, access, makes, reads, writes, takes_in, puts_out}
+use Rattle.behavior.specs.Acts.{Permission, goes, traps, access, makes, takes_in, puts_out}
 use Rattle.behavior.proofs.Paths.{then-assoc}
-use Rattle.behavior.proofs.Blocks.{Unfolds, block-ends, block-goes, block-begins, block-acts}
+use Rattle.behavior.proofs.Blocks.{Unfolds, block-ends, block-goes, block-begins}
 use Rattle.a64_table.specs.declared.narrow.XReg.{XReg}
 use Rattle.a64_table.specs.declared.narrow.A64.{A64}
 use Rattle.a64_table.specs.declared.narrow.A64.TheVariants.{Orr, AddImm, Movz, Movk, Cbz, Ldr, Str, DmbFull, DmbLd, DmbSt, Brk, Svc}
 use Rattle.a64_table.specs.Words.{InRange, word_of}
 use Rattle.a64_table.specs.Decoding.{a64_of}
-use Rattle.a64_table.specs.Rows.{Nzcv, Done, xregs, low, gets, jumps, breaks, calls, a64_row, a64_result, AState, value, after, ahead, a64_words}
+use Rattle.a64_table.specs.Rows.{Done, xregs, low, gets, jumps, a64_row, a64_result, AState, value, after, ahead, GoesForward, IsForward, a64_words}
 use Rattle.a64_table.specs.Machine.{AThread, word_at, moved, a64_take, a64_step}
 use Rattle.a64_table.proofs.WordLemmas.{a64_of-word_of}
-use Rattle.straight_line.specs.Passes.{GoesForward, IsForward}
-use Rattle.straight_line.proofs.Unfolding.{AllResults, results_choice, unfolds_self, unfolds_then}
+use Rattle.behavior.proofs.Unfolding.{AllResults, results_choice, unfolds_then}
+
+-- words, and then more words
+pub words-append : (may : Permission) (ws vs : List (A64 XReg)) (at skip : ℕ) (s : AState)
+    → a64_words xregs may at (ws ++ vs) skip s ≡ (a64_words xregs may at ws skip s then (λ r. a64_words xregs may (at + 4 * length ws) vs r.0 r.1))
+words-append may [] vs at skip s = let e : at + 4 * 0 ≡ at = omega arith in ap (λ a. a64_words xregs may a vs skip s) (sym e)
+words-append may (w ∷ ws) vs at (suc skip) s =
+    let e : at + 4 + 4 * length ws ≡ at + 4 * length (w ∷ ws) = omega arith in
+    words-append may ws vs (at + 4) skip s ∙ ap (λ a. a64_words xregs may (at + 4) ws skip s then (λ r. a64_words xregs may a vs r.0 r.1)) e
+words-append may (w ∷ ws) vs at zero s =
+    let e : at + 4 + 4 * length ws ≡ at + 4 * length (w ∷ ws) = omega arith in
+    let row = Begins (a64_row xregs may at w (value xregs s) s.nzcv) in
+    let on : Done → Tree (Next (ℕ × AState)) = λ d. a64_words xregs may (at + 4) ws (ahead d.distance) (after xregs (a64_result xregs w) d s) in
+    ap (λ f. row then f) (fun_ext (λ d. words-append may ws vs (at + 4) (ahead d.distance) (after xregs (a64_result xregs w) d s)
+    ∙ ap (λ a. a64_words xregs may (at + 4) ws (ahead d.distance) (after xregs (a64_result xregs w) d s) then (λ r. a64_words xregs may a vs r.0 r.1)) e))
+    ∙ sym (then-assoc row on (λ r. a64_words xregs may (at + 4 * length (w ∷ ws)) vs r.0 r.1))
 
 -- the instruction that the code has at an address
 abbrev pub instr_at : (first : ℕ) → List ℕ → ℕ → Option (A64 XReg)

@@ -1,10 +1,8 @@
 -- Trees whose results have a property, and what unfolds where such a tree goes on.
-use Rattle.std.proofs.Common.{◌≡◌, ℕ, ◌<◌, Bool, true, false, List, refl}
+use Rattle.std.proofs.Common.{ℕ, ◌<◌, Bool, true, false}
 use Rattle.std.specs.Prelude.{if◌then◌else◌}
-use Rattle.ev_graph.specs.declared.events.TrapKind.{TrapKind}
 use Rattle.behavior.specs.Tree.{Tree, Gives, Begins, Acts, Next, Goes, Stops, ◌then◌}
-use Rattle.behavior.specs.Acts.{Permission, traps, access, makes, reads, writes}
-use Rattle.behavior.proofs.Blocks.{Unfolds, block-ends, block-goes, block-begins, block-acts}
+use Rattle.behavior.proofs.Blocks.{Unfolds, block-ends, block-begins, block-acts}
 
 -- each state to which the tree comes has the property
 abbrev pub AllResults : {S : Type 0} → (S → Type 0) → Tree (Next S) → Type 0
