@@ -5,3 +5,4 @@ pub mod Fenced
 pub mod Selected
 pub mod LineUnfolds
 pub mod LineCarried
+pub mod LineRead

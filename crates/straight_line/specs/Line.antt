@@ -57,3 +57,7 @@ on_state f (Return s v) = goes (Return s v)
 abbrev pub x64_rows : Permission → List PlacedNarrow → X64 → Tree (Next Exit)
 x64_rows may [] s = goes (State s)
 x64_rows may (p ∷ ps) s = Begins (x64_row may p.instr p.length s) then on_state (x64_rows may ps)
+
+-- the straight line from an address on that the code spells
+abbrev pub IsLineOf : (first : ℕ) → (code : List ℕ) → List PlacedNarrow → Type 0
+IsLineOf first code line = IsStraight first line × SpellLine line code

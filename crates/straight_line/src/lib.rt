@@ -6,6 +6,7 @@
 pub mod fence;
 pub mod layout;
 pub mod lift;
+pub mod line;
 pub mod select;
 pub mod steps;
 pub mod translate;
