@@ -1,5 +1,5 @@
 -- The passes one behind the other carry a line.
-use Rattle.std.proofs.Common.{◌≡◌, ℕ, ◌+◌, ◌*◌, ◌^◌, ◌<◌, ◌==◌, Bool, true, false, List, [], ◌∷◌, ◌++◌, map, length, refl, sym, ap, ◌∙◌, subst, arith}
+use Rattle.std.proofs.Common.{◌≡◌, ℕ, ◌+◌, ◌*◌, ◌^◌, ◌<◌, ◌==◌, Bool, true, false, List, [], ◌∷◌, ◌++◌, map, length, refl, sym, ap, ◌∙◌, subst, arith, Option}
 use Rattle.std.proofs.lemmas.List.{length-map}
 use Rattle.std.specs.Prelude.{if◌then◌else◌, pos}
 use Rattle.std.specs.List.{AllByRecursion}
@@ -23,11 +23,11 @@ use Rattle.a64_table.specs.Rows.{xregs, low, AState, value, IsForward, a64_words
 use Rattle.a64_table.specs.Machine.{AThread, a64_step}
 use Rattle.a64_table.proofs.MachineLemmas.{words-append, lands, words_unfold, words_stand}
 use Rattle.straight_line.specs.declared.steps.Step.{Step}
-use Rattle.straight_line.specs.Line.{IsStraight, placed_in, x64_rows}
+use Rattle.straight_line.specs.Line.{IsStraight, Stand, x64_rows}
 use Rattle.straight_line.specs.Passes.{SameRegisters, Returned, LiftsLine, IsSameBank, KeepsPlaced, x, SameNamed, Selected, SelectsWords, ending}
 use Rattle.straight_line.specs.Carried.{Starts, CarriesLine}
 use Rattle.straight_line.proofs.Lists.{all_append}
-use Rattle.straight_line.proofs.LineUnfolds.{line_unfolds, line_stands}
+use Rattle.straight_line.proofs.LineUnfolds.{line_unfolds}
 
 -- a return and the words behind it: X16 has the popped address
 abbrev Popped : Exit → ℕ × AState → Type 0
@@ -115,10 +115,10 @@ threads_keep first code p ps ws passes may s t starts =
 
 -- ---- the machines
 
-source_blocks : (may : Permission) (first : ℕ) (p : PlacedNarrow) (ps : List PlacedNarrow) → IsStraight first (p ∷ ps)
-    → AreBlocks (x64_step may (placed_in (p ∷ ps)) no_sites) (λ (s : X64). s.at ≡ first) (λ s. x64_rows may (p ∷ ps) s then resolve no_sites)
-source_blocks may first p ps straight = record {
-  unfolds = λ s at. line_unfolds may (placed_in (p ∷ ps)) no_sites p ps first straight.stands (line_stands first (p ∷ ps) straight.stands) s at;
+source_blocks : (may : Permission) (placed : ℕ → Option PlacedNarrow) (first : ℕ) (p : PlacedNarrow) (ps : List PlacedNarrow) → IsStraight first (p ∷ ps) → Stand placed (p ∷ ps)
+    → AreBlocks (x64_step may placed no_sites) (λ (s : X64). s.at ≡ first) (λ s. x64_rows may (p ∷ ps) s then resolve no_sites)
+source_blocks may placed first p ps straight found = record {
+  unfolds = λ s at. line_unfolds may placed no_sites p ps first straight.stands found s at;
   advances = λ s at. begins_advances _;
 }
 
@@ -149,9 +149,9 @@ leads first code s t starts = (starts.source_at, starts.target_at)
 carries_cons : (first code : ℕ) (p : PlacedNarrow) (ps : List PlacedNarrow) (ws : List (A64 XReg)) → IsStraight first (p ∷ ps) → Passes first (p ∷ ps) ws
     → AllByRecursion InRange (ws ++ ending) → Forwards ws → code + 4 * length (ws ++ ending) < 2 ^ 63 → CarriesLine first (p ∷ ps) code (map word_of (ws ++ ending))
 carries_cons first code p ps ws straight passes range forward low = record {
-  backward = λ may s t starts. blocks_backward 256 (Starts first code) (x64_step may (placed_in (p ∷ ps)) no_sites) (λ s. x64_rows may (p ∷ ps) s then resolve no_sites) (λ s. s.at ≡ first) (source_blocks may first p ps straight)
+  backward = λ may placed found s t starts. blocks_backward 256 (Starts first code) (x64_step may placed no_sites) (λ s. x64_rows may (p ∷ ps) s then resolve no_sites) (λ s. s.at ≡ first) (source_blocks may placed first p ps straight found)
       (a64_step may code (map word_of (ws ++ ending))) (code_tree may code ws) (λ t. t.at ≡ code) (target_blocks may code ws range forward low) (leads first code) (threads_keep first code p ps ws passes may) s t starts;
-  forward = λ may s t starts. blocks_forward 256 (Starts first code) (x64_step may (placed_in (p ∷ ps)) no_sites) (λ s. x64_rows may (p ∷ ps) s then resolve no_sites) (λ s. s.at ≡ first) (source_blocks may first p ps straight)
+  forward = λ may placed found s t starts. blocks_forward 256 (Starts first code) (x64_step may placed no_sites) (λ s. x64_rows may (p ∷ ps) s then resolve no_sites) (λ s. s.at ≡ first) (source_blocks may placed first p ps straight found)
       (a64_step may code (map word_of (ws ++ ending))) (code_tree may code ws) (λ t. t.at ≡ code) (target_blocks may code ws range forward low) (leads first code) (threads_keep first code p ps ws passes may) s t starts;
 }
 

@@ -9,14 +9,9 @@ use Rattle.behavior.proofs.Paths.{then-assoc}
 use Rattle.behavior.proofs.Blocks.{Unfolds, block-ends, block-goes, block-begins}
 use Rattle.x64_table.specs.declared.narrow.PlacedNarrow.{PlacedNarrow}
 use Rattle.x64_table.specs.Machine.{X64, Exit, State, Return, x64_row, resolve, x64_take, x64_step}
-use Rattle.straight_line.specs.Line.{StandFrom, placed_in, on_state, x64_rows}
+use Rattle.straight_line.specs.Line.{StandFrom, placed_in, on_state, x64_rows, Stand}
 use Rattle.behavior.proofs.Unfolding.{unfolds_self, unfolds_then}
 use Rattle.x64_table.proofs.MachineLemmas.{IsBehind, row_behind}
-
--- each instruction of the line is what stands at its address
-abbrev pub Stand : (ℕ → Option PlacedNarrow) → List PlacedNarrow → Type 0
-Stand placed [] = Unit {0}
-Stand placed (p ∷ ps) = (placed p.address ≡ Some p) × Stand placed ps
 
 -- addresses stay below 2^64
 start_below : (at : ℕ) (line : List PlacedNarrow) → StandFrom at line → at < 2 ^ 64

@@ -48,6 +48,11 @@ abbrev pub placed_in : List PlacedNarrow → ℕ → Option PlacedNarrow
 placed_in [] n = None
 placed_in (p ∷ ps) n = if n == p.address then Some p else placed_in ps n
 
+-- each instruction of the line is what stands at its address
+abbrev pub Stand : (ℕ → Option PlacedNarrow) → List PlacedNarrow → Type 0
+Stand placed [] = Unit {0}
+Stand placed (p ∷ ps) = (placed p.address ≡ Some p) × Stand placed ps
+
 -- what follows a row that goes on to the next instruction
 abbrev pub on_state : (X64 → Tree (Next Exit)) → Exit → Tree (Next Exit)
 on_state f (State s) = f s

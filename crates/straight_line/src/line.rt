@@ -1,8 +1,8 @@
-ghost use Rattle.std.specs.Prelude.{◌≡◌, ◌+◌, ◌^◌, ◌<◌, ◌≤◌, IfOk, IfSome, IfNone, List, Some, None, if◌then◌else◌, drop, length};
+ghost use Rattle.std.specs.Prelude.{◌≡◌, ℕ, ◌+◌, ◌^◌, ◌<◌, ◌≤◌, IfOk, IfSome, IfNone, List, Some, None, if◌then◌else◌, drop, length};
 ghost use Rattle.std.specs.Option.{option_map};
 ghost use Rattle.x64_table.specs.declared.narrow.PlacedNarrow.{PlacedNarrow};
 ghost use Rattle.x64_table.specs.Reading.{reading, within};
-ghost use Rattle.straight_line.specs.Line.{IsLineOf};
+ghost use Rattle.straight_line.specs.Line.{IsLineOf, StandFrom, Stand, placed_in};
 ghost use Rattle.straight_line.specs.Reading.{is_return, placed_at, read_lines};
 
 use ev_graph::NoMemory;
@@ -22,6 +22,11 @@ pub fn read_line(
 {
     read_lines(alloc, first, code)
 }
+
+/// The instructions of a line stand at their addresses.
+pub fn lines_stand()
+    ensures { (first : ℕ) (line : List PlacedNarrow) → StandFrom first line → Stand (placed_in line) line }
+{}
 
 fn read_lines(alloc: Global, first: u64, code: &[u8]) -> Result<Option<Vec<PlacedNarrow>>, NoMemory>
     requires { first + length code.now < 2 ^ 64 }
