@@ -1,15 +1,14 @@
 -- The words of instructions in range, and what is read from them.
-use Rattle.std.proofs.Common.{◌≡◌, ◌≢◌, ℕ, zero, suc, ◌+◌, ◌-◌, ◌*◌, ◌/◌, ◌%◌, ◌^◌, ◌<◌, ◌≤◌, ◌==◌, ◌&&◌, ◌||◌, not, Bool, true, false, ◌⊎◌, inl, inr, Option, Some, None, refl, sym, ap, ◌∙◌, subst, arith}
-use Rattle.std.specs.Prelude.{if◌then◌else◌, nat_lt, nat_le, ℤ, pos, negsuc, neg_ℤ, ◌-ℤ◌, ◌≤ℤ◌, ◌<ℤ◌, int_le, int_lt, unsigned_abs}
-use Rattle.std.specs.Int.{int_rem_euclid}
+use Rattle.std.proofs.Common.{◌≡◌, ℕ, suc, ◌+◌, ◌/◌, ◌^◌, ◌<◌, ◌≤◌, ◌==◌, ◌&&◌, ◌||◌, Bool, true, false, inl, inr, Option, Some, None, refl, sym, ap, ◌∙◌, subst, arith}
+use Rattle.std.specs.Prelude.{if◌then◌else◌, nat_lt, nat_le, ℤ, pos, negsuc, neg_ℤ, ◌-ℤ◌, ◌≤ℤ◌, ◌<ℤ◌, int_le, int_lt}
 use Rattle.std.proofs.lemmas.Bool.{eqb-true, eq-eqb}
 use Rattle.std.proofs.lemmas.Bool.Decides.{nat_tests}
 use Rattle.std.proofs.lemmas.Int.{ints}
 use Rattle.a64_table.specs.declared.narrow.XReg.{XReg}
 use Rattle.a64_table.specs.declared.narrow.A64.{A64}
 use Rattle.a64_table.specs.declared.narrow.A64.TheVariants.{Orr, AddImm, Movz, Movk, Cbz, Ldr, Str, DmbFull, DmbLd, DmbSt, Brk, Svc}
-use Rattle.a64_table.specs.Words.{bits, wide, size_bits, signed_field, word_of, IsRegister, IsOperand, IsSize, InRange, IsSpelling}
-use Rattle.a64_table.specs.Decoding.{is_register, is_operand, is_size, in_range, field, register_at, distance_in, orr, add_imm, movz, movk, cbz, access, barrier, exception, by_class, candidate, held_against, a64_of}
+use Rattle.a64_table.specs.Words.{bits, size_bits, signed_field, word_of, IsRegister, IsOperand, IsSize, InRange, IsSpelling}
+use Rattle.a64_table.specs.Decoding.{is_register, is_operand, is_size, in_range, field, register_at, distance_in, orr, add_imm, movz, movk, cbz, access, exception, by_class, candidate, held_against, a64_of}
 
 -- ---- the tests of the ranges
 

@@ -1,5 +1,5 @@
 -- The instruction that a word spells: read by its class, and then held against the word.
-use Rattle.std.specs.Prelude.{ℕ, ◌+◌, ◌-◌, ◌*◌, ◌/◌, ◌%◌, ◌^◌, ◌==◌, ◌&&◌, ◌||◌, not, nat_lt, nat_le, Bool, true, false, if◌then◌else◌, ℤ, pos, neg_ℤ, ◌-ℤ◌, int_le, int_lt, Option, Some, None}
+use Rattle.std.specs.Prelude.{ℕ, ◌/◌, ◌%◌, ◌^◌, ◌==◌, ◌&&◌, ◌||◌, not, nat_lt, nat_le, Bool, true, false, if◌then◌else◌, ℤ, pos, neg_ℤ, ◌-ℤ◌, int_le, int_lt, Option, Some, None}
 use Rattle.a64_table.specs.declared.narrow.XReg.{XReg}
 use Rattle.a64_table.specs.declared.narrow.A64.{A64}
 use Rattle.a64_table.specs.declared.narrow.A64.TheVariants.{Orr, AddImm, Movz, Movk, Cbz, Ldr, Str, DmbFull, DmbLd, DmbSt, Brk, Svc}

@@ -1,5 +1,5 @@
 -- The machine that takes the words of a code segment.
-use Rattle.std.specs.Prelude.{ℕ, ◌+◌, ◌-◌, ◌/◌, ◌%◌, ◌^◌, ◌==◌, ◌&&◌, nat_le, if◌then◌else◌, ℤ, pos, ◌+ℤ◌, ◌*ℤ◌, unsigned_abs, List, slice_get, Option, Some, None, option_and_then}
+use Rattle.std.specs.Prelude.{ℕ, ◌-◌, ◌/◌, ◌%◌, ◌^◌, ◌==◌, ◌&&◌, nat_le, if◌then◌else◌, ℤ, pos, ◌+ℤ◌, ◌*ℤ◌, unsigned_abs, List, slice_get, Option, Some, None, option_and_then}
 use Rattle.std.specs.Int.{int_rem_euclid}
 use Rattle.ev_graph.specs.declared.events.TrapKind.TheVariants.{BadJump}
 use Rattle.behavior.specs.Tree.{Tree, Begins, Next, ◌then◌}

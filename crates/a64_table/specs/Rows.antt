@@ -1,6 +1,6 @@
 -- What A64 instructions do, over registers of any kind (Arm ARM, chapter C6). A row gets the values of its registers
 -- and gives a value; a table says which register gets it.
-use Rattle.std.specs.Prelude.{ℕ, zero, suc, ◌+◌, ◌-◌, ◌*◌, ◌/◌, ◌%◌, ◌^◌, ◌==◌, Bool, true, false, if◌then◌else◌, bit_or, ℤ, pos, unsigned_abs, List, [], ◌∷◌, Option, Some, None}
+use Rattle.std.specs.Prelude.{◌≡◌, ℕ, zero, suc, ◌<◌, ◌+◌, ◌-◌, ◌*◌, ◌/◌, ◌%◌, ◌^◌, ◌==◌, Bool, if◌then◌else◌, bit_or, ℤ, pos, unsigned_abs, List, [], ◌∷◌, Option, Some, None}
 use Rattle.ev_graph.specs.declared.events.End.TheVariants.{Halted}
 use Rattle.ev_graph.specs.declared.events.FenceKind.TheVariants as fences
 use Rattle.ev_graph.specs.declared.events.TrapKind.TheVariants.{Divide, Invalid, BadReturn, BadJump}
@@ -114,6 +114,15 @@ after names (Some r) d s = record { regs = put (names.number r) d.value s.regs; 
 -- how many words a distance forward leaves out
 abbrev pub ahead : ℤ → ℕ
 ahead distance = unsigned_abs distance - 1
+
+-- a distance goes forward, by no more than 2^20 words
+abbrev pub GoesForward : ℤ → Type 0
+GoesForward distance = (k : ℕ) × (distance ≡ pos (suc k)) × (k < 2 ^ 20)
+
+-- the instruction's branch, if it is one, goes forward
+abbrev pub IsForward : {R : Type 0} → A64 R → Type 0
+IsForward (Cbz x t distance) = GoesForward distance
+IsForward w = Unit {0}
 
 -- The words of a block from an address on, of which some are still left out; it goes on with how many are left out
 -- behind the last, so words append. Distances go forward.

@@ -7,3 +7,4 @@ pub mod Walks
 pub mod Blocks
 pub mod Explanations
 pub mod ActsLemmas
+pub mod Unfolding

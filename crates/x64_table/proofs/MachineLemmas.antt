@@ -9,6 +9,7 @@ use Rattle.behavior.specs.Tree.{Tree, Gives, Acts, At, Path, gives, acts, Next, 
 use Rattle.behavior.specs.Acts.{put, Permission, goes, traps, access, makes}
 use Rattle.behavior.specs.Explained.{IsOpen}
 use Rattle.behavior.proofs.ActsLemmas.{open_then, open_reads, open_writes}
+use Rattle.behavior.proofs.Unfolding.{AllResults, results_choice}
 use Rattle.x64_table.specs.declared.narrow.Narrow.{Narrow}
 use Rattle.x64_table.specs.declared.narrow.Narrow.TheVariants.{Move, Load, Store, Move32, Move64, Ret}
 use Rattle.x64_table.specs.declared.narrow.PlacedNarrow.{PlacedNarrow}
@@ -64,3 +65,19 @@ row_slots (Store base from) may length s items exit n path = write_slots (may tr
 row_slots (Move32 to v) may length s items exit n gives = refl
 row_slots (Move64 to v) may length s items exit n gives = refl
 row_slots Ret may length s items exit n path = read_slots (may false (s.regs 4) 8) s.at (s.regs 4) (λ v. Return (after length (put 4 ((s.regs 4 + 8) % 2 ^ 64) s.regs) s) v) items exit n path
+
+-- a row that goes on leaves the address after the instruction
+abbrev pub IsBehind : ℕ → Exit → Type 0
+IsBehind at (State t) = t.at ≡ at
+IsBehind at (Return t v) = Unit {0}
+
+pub row_behind : (may : Permission) (instr : Narrow) (length : ℕ) (s : X64) → AllResults (IsBehind ((s.at + length) % 2 ^ 64)) (x64_row may instr length s)
+row_behind may (Move to from) length s = refl
+row_behind may (Load to base) length s =
+    results_choice (IsBehind ((s.at + length) % 2 ^ 64)) (may false (s.regs base) 8) (Acts (256 ^ 8) (λ v. access kinds.Read false s.at (s.regs base) 8 v ∷ []) (λ v. goes (State (after length (put to v s.regs) s)))) (traps BadAccess) (λ v lt. refl) tt
+row_behind may (Store base from) length s =
+    results_choice (IsBehind ((s.at + length) % 2 ^ 64)) (may true (s.regs base) 8) (makes (access kinds.Write false s.at (s.regs base) 8 (s.regs from % 256 ^ 8)) (goes (State (after length s.regs s)))) (traps BadAccess) (λ v lt. refl) tt
+row_behind may (Move32 to n) length s = refl
+row_behind may (Move64 to n) length s = refl
+row_behind may Ret length s =
+    results_choice (IsBehind ((s.at + length) % 2 ^ 64)) (may false (s.regs 4) 8) (Acts (256 ^ 8) (λ v. access kinds.Read false s.at (s.regs 4) 8 v ∷ []) (λ v. goes (Return (after length (put 4 ((s.regs 4 + 8) % 2 ^ 64) s.regs) s) v))) (traps BadAccess) (λ v lt. tt) tt

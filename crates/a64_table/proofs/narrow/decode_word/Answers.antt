@@ -1,5 +1,5 @@
-use Rattle.std.proofs.Common.{◌≡◌, sym, ◌∙◌}
-use Rattle.a64_table.specs.Decoding.{candidate, held_against, a64_of}
+use Rattle.std.proofs.Common.{sym, ◌∙◌}
+use Rattle.a64_table.specs.Decoding.{a64_of}
 use Rattle.a64_table.proofs.WordLemmas.{spells_read, read_spelled}
 use Rattle.a64_table.proofs.narrow.decode_word.Goals as goal
 

@@ -1,0 +1,155 @@
+-- Words in two parts, and the machine that takes the words of a code segment one behind the other.
+use Rattle.std.proofs.Common.{◌≡◌, ℕ, zero, suc, ◌+◌, ◌-◌, ◌*◌, ◌/◌, ◌%◌, ◌^◌, ◌<◌, ◌==◌, ◌&&◌, true, false, List, [], ◌∷◌, ◌++◌, map, length, Option, Some, None, refl, sym, ap, ◌∙◌, subst, arith, append_assoc, length-append}
+use mathlib.Core.Path.{fun_ext}
+use Rattle.std.specs.Prelude.{if◌then◌else◌, nat_le, slice_get, ℤ, pos}
+use Rattle.std.specs.Option.{option_and_then}
+use Rattle.std.specs.List.{AllByRecursion}
+use Rattle.std.proofs.lemmas.Bool.Decides.{nat_tests}
+use Rattle.ev_graph.specs.declared.events.TrapKind.TheVariants.{BadAccess, Divide, Invalid, BadReturn, BadJump}
+use Rattle.ev_graph.specs.declared.events.End.TheVariants.{Halted}
+use Rattle.ev_graph.specs.declared.events.AccessKind.TheVariants.{Read, Write}
+use Rattle.behavior.specs.Tree.{Tree, Gives, Begins, Acts, Next, Goes, Stops, ◌then◌}
+use Rattle.behavior.specs.Acts.{Permission, goes, traps, access, makes, takes_in, puts_out}
+use Rattle.behavior.proofs.Paths.{then-assoc}
+use Rattle.behavior.proofs.Blocks.{Unfolds, block-ends, block-goes, block-begins}
+use Rattle.a64_table.specs.declared.narrow.XReg.{XReg}
+use Rattle.a64_table.specs.declared.narrow.A64.{A64}
+use Rattle.a64_table.specs.declared.narrow.A64.TheVariants.{Orr, AddImm, Movz, Movk, Cbz, Ldr, Str, DmbFull, DmbLd, DmbSt, Brk, Svc}
+use Rattle.a64_table.specs.Words.{InRange, word_of}
+use Rattle.a64_table.specs.Decoding.{a64_of}
+use Rattle.a64_table.specs.Rows.{Done, xregs, low, gets, jumps, a64_row, a64_result, AState, value, after, ahead, GoesForward, IsForward, a64_words}
+use Rattle.a64_table.specs.Machine.{AThread, word_at, moved, a64_take, a64_step}
+use Rattle.a64_table.proofs.WordLemmas.{a64_of-word_of}
+use Rattle.behavior.proofs.Unfolding.{AllResults, results_choice, unfolds_then}
+
+-- words, and then more words
+pub words-append : (may : Permission) (ws vs : List (A64 XReg)) (at skip : ℕ) (s : AState)
+    → a64_words xregs may at (ws ++ vs) skip s ≡ (a64_words xregs may at ws skip s then (λ r. a64_words xregs may (at + 4 * length ws) vs r.0 r.1))
+words-append may [] vs at skip s = let e : at + 4 * 0 ≡ at = omega arith in ap (λ a. a64_words xregs may a vs skip s) (sym e)
+words-append may (w ∷ ws) vs at (suc skip) s =
+    let e : at + 4 + 4 * length ws ≡ at + 4 * length (w ∷ ws) = omega arith in
+    words-append may ws vs (at + 4) skip s ∙ ap (λ a. a64_words xregs may (at + 4) ws skip s then (λ r. a64_words xregs may a vs r.0 r.1)) e
+words-append may (w ∷ ws) vs at zero s =
+    let e : at + 4 + 4 * length ws ≡ at + 4 * length (w ∷ ws) = omega arith in
+    let row = Begins (a64_row xregs may at w (value xregs s) s.nzcv) in
+    let on : Done → Tree (Next (ℕ × AState)) = λ d. a64_words xregs may (at + 4) ws (ahead d.distance) (after xregs (a64_result xregs w) d s) in
+    ap (λ f. row then f) (fun_ext (λ d. words-append may ws vs (at + 4) (ahead d.distance) (after xregs (a64_result xregs w) d s)
+    ∙ ap (λ a. a64_words xregs may (at + 4) ws (ahead d.distance) (after xregs (a64_result xregs w) d s) then (λ r. a64_words xregs may a vs r.0 r.1)) e))
+    ∙ sym (then-assoc row on (λ r. a64_words xregs may (at + 4 * length (w ∷ ws)) vs r.0 r.1))
+
+-- the instruction that the code has at an address
+abbrev pub instr_at : (first : ℕ) → List ℕ → ℕ → Option (A64 XReg)
+instr_at first words at = option_and_then a64_of (word_at first words at)
+
+-- the instructions stand one behind the other in the code, from an address on
+abbrev pub StandAt : (first : ℕ) → List ℕ → (at : ℕ) → List (A64 XReg) → Type 0
+StandAt first words at [] = Unit {0}
+StandAt first words at (w ∷ ws) = (instr_at first words at ≡ Some w) × StandAt first words (at + 4) ws
+
+abbrev DoneForward : Done → Type 0
+DoneForward d = GoesForward d.distance
+
+next_word : GoesForward (pos 1)
+next_word = (0, refl, omega arith)
+
+row_forward : (may : Permission) (place : ℕ) (w : A64 XReg) (s : AState) → IsForward w → AllResults DoneForward (a64_row xregs may place w (value xregs s) s.nzcv)
+row_forward may place (Orr x d n m kind amount) s forward = next_word
+row_forward may place (AddImm x d n number) s forward = next_word
+row_forward may place (Movz x d v quarter) s forward = next_word
+row_forward may place (Movk x d v quarter) s forward = next_word
+row_forward may place (Cbz x t distance) s forward =
+    results_choice DoneForward (low x (value xregs s t) == 0) (jumps distance s.nzcv) (jumps (pos 1) s.nzcv) forward next_word
+row_forward may place (Ldr size t n number) s forward =
+    results_choice DoneForward (may false ((value xregs s n + number * size) % 2 ^ 64) size)
+    (Acts (256 ^ size) (λ v. access Read false place ((value xregs s n + number * size) % 2 ^ 64) size v ∷ []) (λ v. gets v s.nzcv)) (traps BadAccess) (λ v lt. next_word) tt
+row_forward may place (Str size t n number) s forward =
+    results_choice DoneForward (may true ((value xregs s n + number * size) % 2 ^ 64) size)
+    (makes (access Write false place ((value xregs s n + number * size) % 2 ^ 64) size (value xregs s t % 256 ^ size)) (gets 0 s.nzcv)) (traps BadAccess) (λ v lt. next_word) tt
+row_forward may place DmbFull s forward = λ v lt. next_word
+row_forward may place DmbLd s forward = λ v lt. next_word
+row_forward may place DmbSt s forward = λ v lt. next_word
+row_forward may place (Brk number) s forward =
+    results_choice DoneForward (number == 1) (traps Divide) (if number == 2 then traps Invalid else (if number == 3 then traps BadReturn else traps BadJump)) tt
+    (results_choice DoneForward (number == 2) (traps Invalid) (if number == 3 then traps BadReturn else traps BadJump) tt
+    (results_choice DoneForward (number == 3) (traps BadReturn) (traps BadJump) tt tt))
+row_forward may place (Svc number) s forward =
+    let x7 = value xregs s (record { number = 7 }) in
+    results_choice DoneForward (number == 1) (takes_in place (λ v. gets v s.nzcv)) (if number == 2 then puts_out place x7 (gets 0 s.nzcv) else (if number == 3 then Gives (Stops Halted) else traps BadJump)) (λ v lt. next_word)
+    (results_choice DoneForward (number == 2) (puts_out place x7 (gets 0 s.nzcv)) (if number == 3 then Gives (Stops Halted) else traps BadJump) (λ v lt. next_word)
+    (results_choice DoneForward (number == 3) (Gives (Stops Halted)) (traps BadJump) tt tt))
+
+-- where a distance forward leads, in low addresses
+moved_forward : (at : ℕ) (distance : ℤ) → at < 2 ^ 63 → GoesForward distance → moved at distance ≡ at + 4 + 4 * ahead distance
+moved_forward at distance low (k, is, few) =
+    let there : moved at (pos (suc k)) ≡ at + 4 + 4 * k = omega (arith, low, few) in
+    let skipped : ahead (pos (suc k)) ≡ k = omega arith in
+    ap (moved at) is ∙ there ∙ ap (λ j. at + 4 + 4 * j) (sym skipped ∙ ap ahead (sym is))
+
+-- where the words have led, behind the last
+abbrev pub lands : (end : ℕ) → ℕ × AState → Tree (Next AThread)
+lands end r = goes (record { at = end + 4 * r.0; state = r.1 })
+
+-- where the machine stands, with so many words left out
+abbrev standing : (at skip : ℕ) → AState → AThread
+standing at skip s = record { at = at + 4 * skip; state = s }
+
+module _ (may : Permission) (first : ℕ) (words : List ℕ) where
+  word_unfolds : (w : A64 XReg) (ws : List (A64 XReg)) (at end : ℕ) (s : AState) → at < 2 ^ 63 → IsForward w → instr_at first words at ≡ Some w
+      → ((skip : ℕ) (t : AState) → Unfolds (a64_step may first words) (Gives (Goes (standing (at + 4) skip t))) (a64_words xregs may (at + 4) ws skip t then lands end))
+      → Unfolds (a64_step may first words) (a64_step may first words (record { at = at; state = s })) (a64_words xregs may at (w ∷ ws) 0 s then lands end)
+  word_unfolds w ws at end s low forward here later =
+      let row = a64_row xregs may at w (value xregs s) s.nzcv in
+      let goes_to : Done → Tree (Next AThread) = λ d. goes (record { at = moved at d.distance; state = after xregs (a64_result xregs w) d s }) in
+      let on : Done → Tree (Next (ℕ × AState)) = λ d. a64_words xregs may (at + 4) ws (ahead d.distance) (after xregs (a64_result xregs w) d s) in
+      let whole = unfolds_then (a64_step may first words) DoneForward row goes_to (λ d. on d then lands end) (row_forward may at w s forward)
+      (λ d far. subst (λ a. Unfolds (a64_step may first words) (Gives (Goes (record { at = a; state = after xregs (a64_result xregs w) d s }))) (on d then lands end)) (sym (moved_forward at d.distance low far))
+      (later (ahead d.distance) (after xregs (a64_result xregs w) d s))) in
+      subst (λ o. Unfolds (a64_step may first words) (a64_take may o (record { at = at; state = s })) (a64_words xregs may at (w ∷ ws) 0 s then lands end)) (sym here)
+      (subst (λ t. Unfolds (a64_step may first words) (a64_take may (Some w) (record { at = at; state = s })) t) (sym (then-assoc (Begins row) on (lands end))) (block-begins whole))
+
+  -- what is left of the words from an address on, of which some are left out
+  words_rest : (ws : List (A64 XReg)) (at end : ℕ) → at + 4 * length ws ≡ end → end < 2 ^ 63 → AllByRecursion IsForward ws → StandAt first words at ws → (skip : ℕ) (s : AState)
+      → Unfolds (a64_step may first words) (Gives (Goes (standing at skip s))) (a64_words xregs may at ws skip s then lands end)
+  words_rest [] at end long low forward stands skip s =
+      let same : at + 4 * skip ≡ end + 4 * skip = omega (arith, long) in
+      subst (λ a. Unfolds (a64_step may first words) (Gives (Goes (standing at skip s))) (goes (record { at = a; state = s }))) same block-ends
+  words_rest (w ∷ ws) at end long low forward stands (suc skip) s =
+      let same : at + 4 + 4 * skip ≡ at + 4 * suc skip = omega arith in
+      subst (λ a. Unfolds (a64_step may first words) (Gives (Goes (record { at = a; state = s }))) (a64_words xregs may (at + 4) ws skip s then lands end)) same
+      (words_rest ws (at + 4) end (omega (arith, long)) low forward.1 stands.1 skip s)
+  words_rest (w ∷ ws) at end long low forward stands zero s =
+      let same : at ≡ at + 4 * 0 = omega arith in
+      subst (λ a. Unfolds (a64_step may first words) (Gives (Goes (record { at = a; state = s }))) (a64_words xregs may at (w ∷ ws) 0 s then lands end)) same
+      (block-goes (word_unfolds w ws at end s (omega (arith, long, low)) forward.0 stands.0 (λ skip t. words_rest ws (at + 4) end (omega (arith, long)) low forward.1 stands.1 skip t)))
+
+  -- from the first of some words on the machine takes them all
+  pub words_unfold : (w : A64 XReg) (ws : List (A64 XReg)) (at end : ℕ) → at + 4 * length (w ∷ ws) ≡ end → end < 2 ^ 63 → AllByRecursion IsForward (w ∷ ws) → StandAt first words at (w ∷ ws) → (s : AState)
+      → Unfolds (a64_step may first words) (a64_step may first words (record { at = at; state = s })) (a64_words xregs may at (w ∷ ws) 0 s then lands end)
+  words_unfold w ws at end long low forward stands s =
+      word_unfolds w ws at end s (omega (arith, long, low)) forward.0 stands.0 (λ skip t. words_rest ws (at + 4) end (omega (arith, long)) low forward.1 stands.1 skip t)
+
+-- ---- the words of instructions in range stand where they are laid
+
+get_middle : (pre : List ℕ) (v : ℕ) (post : List ℕ) → slice_get (pre ++ v ∷ post) (length pre) ≡ Some v
+get_middle [] v post = refl
+get_middle (u ∷ pre) v post = get_middle pre v post
+
+word_middle : (first : ℕ) (pre : List ℕ) (v : ℕ) (post : List ℕ) → word_at first (pre ++ v ∷ post) (first + 4 * length pre) ≡ Some v
+word_middle first pre v post =
+    let at = first + 4 * length pre in
+    let inside : (nat_le first at && (at - first) % 4 == 0) ≡ true = grind (arith, nat_tests) in
+    let index : (at - first) / 4 ≡ length pre = omega arith in
+    ap (λ b. if b then slice_get (pre ++ v ∷ post) ((at - first) / 4) else None) inside ∙ ap (slice_get (pre ++ v ∷ post)) index ∙ get_middle pre v post
+
+stand_behind : (first : ℕ) (pre : List ℕ) (ws : List (A64 XReg)) → AllByRecursion InRange ws → StandAt first (pre ++ map word_of ws) (first + 4 * length pre) ws
+stand_behind first pre [] range = tt
+stand_behind first pre (w ∷ ws) range =
+    let here : instr_at first (pre ++ map word_of (w ∷ ws)) (first + 4 * length pre) ≡ Some w =
+    ap (option_and_then a64_of) (word_middle first pre (word_of w) (map word_of ws)) ∙ a64_of-word_of w range.0 in
+    let next : first + 4 * length (pre ++ word_of w ∷ []) ≡ first + 4 * length pre + 4 = omega (arith, length-append pre (word_of w ∷ [])) in
+    let rest = stand_behind first (pre ++ word_of w ∷ []) ws range.1 in
+    let same : (pre ++ word_of w ∷ []) ++ map word_of ws ≡ pre ++ map word_of (w ∷ ws) = append_assoc pre (word_of w ∷ []) (map word_of ws) in
+    (here, subst (λ a. StandAt first (pre ++ map word_of (w ∷ ws)) a ws) next (subst (λ l. StandAt first l (first + 4 * length (pre ++ word_of w ∷ [])) ws) same rest))
+
+pub words_stand : (first : ℕ) (ws : List (A64 XReg)) → AllByRecursion InRange ws → StandAt first (map word_of ws) first ws
+words_stand first ws range = let e : first + 4 * 0 ≡ first = omega arith in subst (λ a. StandAt first (map word_of ws) a ws) e (stand_behind first [] ws range)

@@ -1,0 +1,18 @@
+use Rattle.std.proofs.lemmas.Result.{IfOk-weaker}
+use Rattle.std.proofs.Common.{◌≡◌, sym, subst}
+use Rattle.std.specs.List.{AllByRecursion, flat_map}
+use Rattle.straight_line.specs.Passes.{lifted, LiftsLine}
+use Rattle.straight_line.specs.Steps.{IsStep}
+use Rattle.straight_line.proofs.Lifted.{lifts, lifts_well}
+use Rattle.straight_line.proofs.lift.lift_line.Goals as goal
+
+pub returns-clause-meaning : goal.returns-clause-meaning
+returns-clause-meaning c =
+    let line = c.args.line.now in
+    λ first straight. IfOk-weaker c.lift_each.result (λ steps. steps.items ≡ flat_map lifted line) (λ steps. LiftsLine first line steps.items) (λ steps same. lifts first line steps.items straight same) c.lift_each.ensures
+
+pub returns-clause-well : goal.returns-clause-well
+returns-clause-well c =
+    let line = c.args.line.now in
+    λ first straight. IfOk-weaker c.lift_each.result (λ steps. steps.items ≡ flat_map lifted line) (λ steps. AllByRecursion IsStep steps.items)
+    (λ steps same. subst (λ l. AllByRecursion IsStep l) (sym same) (lifts_well line straight.narrow)) c.lift_each.ensures

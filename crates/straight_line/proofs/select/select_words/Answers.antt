@@ -1,0 +1,25 @@
+use Rattle.std.proofs.lemmas.Result.{IfOk-weaker}
+use Rattle.std.proofs.Common.{◌≡◌, sym, subst}
+use Rattle.std.specs.List.{AllByRecursion, flat_map}
+use Rattle.a64_table.specs.Words.{InRange}
+use Rattle.a64_table.specs.Rows.{IsForward}
+use Rattle.straight_line.specs.Passes.{selected, SelectsWords}
+use Rattle.straight_line.proofs.Selected.{selects, selects_range, selects_forward}
+use Rattle.straight_line.proofs.select.select_words.Goals as goal
+
+pub returns-clause-meaning : goal.returns-clause-meaning
+returns-clause-meaning c =
+    let steps = c.args.steps.now in
+    IfOk-weaker c.select_each.result (λ words. words.items ≡ flat_map selected steps) (λ words. SelectsWords steps words.items) (λ words same. selects steps words.items c.requires same) c.select_each.ensures
+
+pub returns-clause-range : goal.returns-clause-range
+returns-clause-range c =
+    let steps = c.args.steps.now in
+    IfOk-weaker c.select_each.result (λ words. words.items ≡ flat_map selected steps) (λ words. AllByRecursion InRange words.items)
+    (λ words same. subst (λ l. AllByRecursion InRange l) (sym same) (selects_range steps c.requires)) c.select_each.ensures
+
+pub returns-clause-forward : goal.returns-clause-forward
+returns-clause-forward c =
+    let steps = c.args.steps.now in
+    IfOk-weaker c.select_each.result (λ words. words.items ≡ flat_map selected steps) (λ words. AllByRecursion IsForward words.items)
+    (λ words same. subst (λ l. AllByRecursion IsForward l) (sym same) (selects_forward steps)) c.select_each.ensures

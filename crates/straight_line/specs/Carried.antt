@@ -1,0 +1,24 @@
+-- What it means that words carry a straight line.
+use Rattle.std.specs.Prelude.{◌≡◌, ℕ, ◌^◌, ◌<◌, List, Option}
+use Rattle.behavior.specs.Acts.{Permission}
+use Rattle.behavior.specs.Kept.{Backward, Forward}
+use Rattle.x64_table.specs.declared.narrow.PlacedNarrow.{PlacedNarrow}
+use Rattle.x64_table.specs.Machine.{X64, x64_step, no_sites}
+use Rattle.a64_table.specs.Machine.{AThread, a64_step}
+use Rattle.straight_line.specs.Line.{Stand}
+
+-- a thread of x86 before the line and one of Arm before the words hold the same in their sixteen registers, and all fits 64 bits
+pub record Starts (first code : ℕ) (s : X64) (t : AThread) : Type 0 where
+  pub source_at : s.at ≡ first
+  pub target_at : t.at ≡ code
+  pub same : (n : ℕ) → n < 16 → t.state.regs n ≡ s.regs n
+  pub fit : (n : ℕ) → t.state.regs n < 2 ^ 64
+
+-- The words at an address carry the line: in any memory, wherever the line's instructions stand, each run of the words is
+-- matched by one of the line, at every cut, and each run of the line that has begun n instructions by one of the words
+-- that has begun at most 256 n words.
+pub record CarriesLine (first : ℕ) (line : List PlacedNarrow) (code : ℕ) (words : List ℕ) : Type 0 where
+  pub backward : (may : Permission) (placed : ℕ → Option PlacedNarrow) → Stand placed line → (s : X64) (t : AThread) → Starts first code s t
+      → Backward (x64_step may placed no_sites) s (a64_step may code words) t
+  pub forward : (may : Permission) (placed : ℕ → Option PlacedNarrow) → Stand placed line → (s : X64) (t : AThread) → Starts first code s t
+      → Forward 256 (x64_step may placed no_sites) s (a64_step may code words) t

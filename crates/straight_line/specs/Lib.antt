@@ -1,0 +1,5 @@
+pub mod Line
+pub mod Reading
+pub mod Steps
+pub mod Passes
+pub mod Carried

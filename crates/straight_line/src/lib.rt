@@ -1,0 +1,12 @@
+//! The translation of a straight line of x86 instructions into A64 words, pass after pass.
+//! Others rest on `translate_line`, whose words do what the line does and take at most 256 words an instruction: `CarriesLine`.
+//! Source: backward and forward simulation of compilers (Leroy, CACM 52(7), 2009), pass by pass.
+#![tactic(auto)]
+
+pub mod fence;
+pub mod layout;
+pub mod lift;
+pub mod line;
+pub mod select;
+pub mod steps;
+pub mod translate;
