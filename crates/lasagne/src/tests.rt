@@ -50,6 +50,28 @@ const LEAST: [(usize, &[u8]); 12] = [
     (0x40B0, b"\x01\0\0\0\0\0\0\0"),
 ];
 
+/// Parts of its image: the program headers, of 401000 with flag R, of 404000 with R and W, and of six
+/// words of code at 410000 with X alone; and the words: ldr x16, [x4]; dmb ishld; add x4, x4, #8;
+/// cbz x16, +2; brk #3; svc #3.
+const IMAGE: [(usize, &[u8]); 4] = [
+    (
+        64,
+        b"\x01\0\0\0\x04\0\0\0\0\x10\0\0\0\0\0\0\0\x10\x40\0\0\0\0\0\0\x10\x40\0\0\0\0\0\x01\0\0\0\0\0\0\0\x01\0\0\0\0\0\0\0\0\x10\0\0\0\0\0\0",
+    ),
+    (
+        120,
+        b"\x01\0\0\0\x06\0\0\0\0\x20\0\0\0\0\0\0\0\x40\x40\0\0\0\0\0\0\x40\x40\0\0\0\0\0\x40\0\0\0\0\0\0\0\x40\0\0\0\0\0\0\0\0\x10\0\0\0\0\0\0",
+    ),
+    (
+        176,
+        b"\x01\0\0\0\x01\0\0\0\0\x30\0\0\0\0\0\0\0\0\x41\0\0\0\0\0\0\0\x41\0\0\0\0\0\x18\0\0\0\0\0\0\0\x18\0\0\0\0\0\0\0\0\x10\0\0\0\0\0\0",
+    ),
+    (
+        0x3000,
+        b"\x90\0\x40\xF9\xBF\x39\x03\xD5\x84\x20\0\x91\x50\0\0\xB4\x60\0\x20\xD4\x61\0\0\xD4",
+    ),
+];
+
 /// The least file: a return, 64 zero cells and one thread.
 fn least_file(alloc: Global) -> Result<Vec<u8>, Fail> {
     let mut bytes = vec![in alloc; 0u8; 16_576]?;
@@ -100,26 +122,13 @@ fn least_file_is_translated(rt: HostRuntime) -> Result<(), Fail> {
     assert_eq!(rt; status, Status::Done);
     assert_eq!(rt; out.taken(), LINE);
     let image = shelf.look("b").ok_or("no image")?;
-    let headers = image.get(64..232).ok_or("short")?;
-    // 401000 with flag R, 404000 with R and W, and the code, six words, at 410000 with X alone.
-    assert_eq!(rt;
-        &headers[..56],
-        b"\x01\0\0\0\x04\0\0\0\0\x10\0\0\0\0\0\0\0\x10\x40\0\0\0\0\0\0\x10\x40\0\0\0\0\0\x01\0\0\0\0\0\0\0\x01\0\0\0\0\0\0\0\0\x10\0\0\0\0\0\0".as_slice()
-    );
-    assert_eq!(rt;
-        &headers[56..112],
-        b"\x01\0\0\0\x06\0\0\0\0\x20\0\0\0\0\0\0\0\x40\x40\0\0\0\0\0\0\x40\x40\0\0\0\0\0\x40\0\0\0\0\0\0\0\x40\0\0\0\0\0\0\0\0\x10\0\0\0\0\0\0".as_slice()
-    );
-    assert_eq!(rt;
-        &headers[112..],
-        b"\x01\0\0\0\x01\0\0\0\0\x30\0\0\0\0\0\0\0\0\x41\0\0\0\0\0\0\0\x41\0\0\0\0\0\x18\0\0\0\0\0\0\0\x18\0\0\0\0\0\0\0\0\x10\0\0\0\0\0\0".as_slice()
-    );
-    // ldr x16, [x4]; dmb ishld; add x4, x4, #8; cbz x16, +2; brk #3; svc #3
-    let code = image.get(0x3000..0x3018).ok_or("short")?;
-    assert_eq!(rt;
-        code,
-        b"\x90\0\x40\xF9\xBF\x39\x03\xD5\x84\x20\0\x91\x50\0\0\xB4\x60\0\x20\xD4\x61\0\0\xD4".as_slice()
-    );
+    for (place, wanted) in IMAGE {
+        let found = image
+            .get(place..)
+            .and_then(|tail| tail.get(..wanted.len()))
+            .ok_or("short")?;
+        assert_eq!(rt; found, wanted, "at {place}");
+    }
     Ok(())
 }
 
