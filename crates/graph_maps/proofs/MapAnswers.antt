@@ -12,7 +12,7 @@ use Rattle.x64_syntax.specs.declared.slots.Slot.{Slot}
 use Rattle.graph_maps.specs.Maps.{limm_thread, x86_thread, is_marked, is_marked_access, is_private_in}
 use Rattle.graph_maps.specs.Needs.{SameEvents, HasFences, IsDmb, IsLimmFence, limm_fences, HasMappingFences, AreUnlocked, AreApart, HasWriteSources}
 use Rattle.graph_maps.proofs.Renamed.{limm_same, limm_frm, limm_fww, limm_fsc, x86_same, x86_mfence}
-use Rattle.graph_maps.proofs.Sources.{access_of}
+use Rattle.ev_graph.proofs.EventLemmas.{access_of}
 use Rattle.graph_maps.proofs.ToLimm.{arm_is_limm_lem}
 use Rattle.graph_maps.proofs.ToTso.{limm_is_tso_lem}
 

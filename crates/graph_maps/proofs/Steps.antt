@@ -11,7 +11,8 @@ use Rattle.order_models.specs.Consistent.{InternalPair, SomeKind}
 use Rattle.graph_maps.specs.Needs.{SameEvents, HasPrivate}
 use Rattle.graph_maps.specs.Laws.{TsoPair}
 use Rattle.graph_maps.proofs.Cut.{CanCut}
-use Rattle.graph_maps.proofs.EventLemmas.{in_po, in_other, overlap_sym, external_sym, rf_overlap, fr_overlap}
+use Rattle.ev_graph.proofs.EventLemmas.{overlap_sym, external_sym, fr_overlap}
+use Rattle.graph_maps.proofs.EventLemmas.{in_po, in_other, rf_overlap}
 use Rattle.graph_maps.proofs.Within.{Within, within_from_local, join_within}
 
 -- rf, fr or co

@@ -15,7 +15,8 @@ use Rattle.order_models.specs.Consistent.{Consistent, Atomic, InternalPair, Exte
 use Rattle.graph_maps.specs.Needs.{SameEvents, Fences, Fenced, MfencesFrom, IsMappedIn, HasMappingFences, HasPrivate, limm_fences, arm_fences}
 use Rattle.graph_maps.specs.Laws.{TsoPair, LimmIsTso, ArmIsTso}
 use Rattle.graph_maps.proofs.Cut.{chain_map, cut_cycle, Shown}
-use Rattle.graph_maps.proofs.EventLemmas.{at_number, from_number, in_same}
+use Rattle.ev_graph.proofs.EventLemmas.{at_number, from_number}
+use Rattle.graph_maps.proofs.EventLemmas.{in_same}
 use Rattle.graph_maps.proofs.Within.{Within}
 use Rattle.graph_maps.proofs.Steps.{Step, co_same, fr_same, internal_same, step_of, can_cut}
 

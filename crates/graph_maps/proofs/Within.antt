@@ -10,7 +10,7 @@ use Rattle.order_models.specs.declared.edge.EdgeKind.TheVariants as edge
 use Rattle.order_models.specs.Orders.{Tso}
 use Rattle.order_models.specs.Consistent.{Local}
 use Rattle.graph_maps.specs.Needs.{Fenced}
-use Rattle.graph_maps.proofs.EventLemmas.{at_number, from_number}
+use Rattle.ev_graph.proofs.EventLemmas.{at_number, from_number}
 
 -- in program order, and not a write before a read, or around an MFENCE, or with a locked end
 pub record Within (threads : List ThreadRun) (a b : Event) : Type 0 where

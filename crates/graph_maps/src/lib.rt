@@ -14,3 +14,6 @@ pub use laws::{
     private_is_needless, well_formed_has_sources,
 };
 pub use to_x86::limm_to_tso;
+
+#[cfg(test)]
+mod tests;
