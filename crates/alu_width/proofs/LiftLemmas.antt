@@ -1,6 +1,6 @@
 -- Whole operations by words of 64 bits, as a translator writes them.
 use Rattle.std.proofs.Common.{◌≡◌, ◌≢◌, ℕ, ◌+◌, ◌-◌, ◌*◌, ◌/◌, ◌%◌, ◌^◌, ◌<◌, true, false, arith, refl, ap, sym, ◌∙◌, lit<}
-use Rattle.std.specs.Prelude.{ℤ, ◌*ℤ◌, nat_lt, nat_le, ◌==◌, not, ◌&&◌, bit_and, bit_xor, int_div, int_rem, if◌then◌else◌, Result, Ok, Err}
+use Rattle.std.specs.Prelude.{ℤ, ◌*ℤ◌, nat_lt, nat_le, ◌==◌, not, ◌&&◌, ◌||◌, bit_and, bit_or, bit_xor, int_div, int_rem, if◌then◌else◌, Result, Ok, Err}
 use Rattle.std.proofs.lemmas.Bool.Decides.{nat_tests}
 use Rattle.std.proofs.lemmas.Nat.{pow_pos, mod_below, field_of}
 use Rattle.word_arith.specs.Width.{IsWidth}
@@ -8,7 +8,8 @@ use Rattle.word_arith.specs.Bits.{bit, differ, top_bit}
 use Rattle.word_arith.specs.Signed.{signed, low_bits, fits_signed, sign_extend}
 use Rattle.word_arith.specs.ArmWords.{msub, sdiv, udiv, smulh, umulh}
 use Rattle.word_arith.proofs.BitLemmas.{top_bit_is, top_and_xor}
-use Rattle.word_arith.proofs.CarryLemmas.{carry_below, carry_at_most, borrow_at_most, sum_cut, difference_cut, difference_cut_borrow}
+use Rattle.word_arith.proofs.CarryLemmas.{carry_below, carry_in_steps, borrow_in_steps, sum_cut, difference_cut, difference_cut_borrow}
+use Rattle.word_arith.proofs.FlagLemmas.{bit-or}
 use Rattle.word_arith.proofs.OverflowLemmas.{range_by_half, sum_overflow, difference_overflow, over_plain, over_signed}
 use Rattle.word_arith.proofs.DivisionLemmas.{sdiv_of_extended, quotient_range, remainder_in_64, plain_remainder_by_msub, plain_range}
 use Rattle.word_arith.proofs.LowBitsLemmas.{low_bits-mod, low_bits_below}
@@ -73,36 +74,47 @@ sub_by_words W a b r w p q is_r =
           ∙ sym (top_and_xor W a b a r (positive W w) p q p word);
     }
 
--- ADC by a sum in 64 bits cut to W: its carry by `<`, or `<=` where there is a carry in
-pub adc_by_words : (W a b r : ℕ) → IsWidth W → a < 2 ^ W → b < 2 ^ W → r ≡ (a + b + 1) % 2 ^ 64 % 2 ^ W →
-    IsWords (sum_outcome W a b 1) r (bit (nat_le r a)) (bit (r == 0)) (r / 2 ^ (W - 1)) (bit_and (bit_xor a r) (bit_xor b r) / 2 ^ (W - 1))
+-- ADC by two sums in 64 bits cut to W: it carries where one of them does
+pub adc_by_words : (W a b c s r : ℕ) → IsWidth W → a < 2 ^ W → b < 2 ^ W → c < 2 →
+    s ≡ (a + b) % 2 ^ 64 % 2 ^ W → r ≡ (a + b + c) % 2 ^ 64 % 2 ^ W →
+    IsWords (sum_outcome W a b c) r (bit_or (bit (nat_lt s a)) (bit (nat_lt r s))) (bit (r == 0)) (r / 2 ^ (W - 1))
+    (bit_and (bit_xor a r) (bit_xor b r) / 2 ^ (W - 1))
 unfolding sum_outcome outcome
-adc_by_words W a b r w p q is_r =
-    let v : (a + b + 1) % 2 ^ W ≡ r = sym (sum_cut W (a + b + 1) w) ∙ sym is_r in
-    let word : r < 2 ^ W = rw (← v) (mod_below (a + b + 1) (2 ^ W) (pow_pos W)) in
+adc_by_words W a b c s r w p q one is_s is_r =
+    let u : (a + b) % 2 ^ W ≡ s = sym (sum_cut W (a + b) w) ∙ sym is_s in
+    let v : (a + b + c) % 2 ^ W ≡ r = sym (sum_cut W (a + b + c) w) ∙ sym is_r in
+    let word : r < 2 ^ W = rw (← v) (mod_below (a + b + c) (2 ^ W) (pow_pos W)) in
     record {
       value = v;
-      carry = ap bit (carry_at_most W a b w p q) ∙ ap (λ m. bit (nat_le m a)) v;
+      carry = ap bit (carry_in_steps W a b c w p q one)
+          ∙ ap (λ m. bit (nat_lt m a || nat_lt ((a + b + c) % 2 ^ W) m)) u
+          ∙ ap (λ m. bit (nat_lt s a || nat_lt m s)) v
+          ∙ bit-or (nat_lt s a) (nat_lt r s);
       zero_flag = ap (λ m. bit (m == 0)) v;
       sign = ap (λ m. bit (top_bit W m)) v ∙ sym (top_bit_is W r (positive W w) word);
-      overflow = ap bit (sum_overflow W a b 1 w p q (lit< tt))
+      overflow = ap bit (sum_overflow W a b c w p q one)
           ∙ ap (λ m. bit (differ (top_bit W a) (top_bit W m) && differ (top_bit W b) (top_bit W m))) v
           ∙ sym (top_and_xor W a r b r (positive W w) p word q word);
     }
 
--- SBB with a borrow in by a difference in 64 bits cut to W: the borrow by `<=`
-pub sbb_by_words : (W a b r : ℕ) → IsWidth W → a < 2 ^ W → b < 2 ^ W → r ≡ (a + (2 ^ 64 - b) + (2 ^ 64 - 1)) % 2 ^ 64 % 2 ^ W →
-    IsWords (difference_outcome W a b 1) r (bit (nat_le a b)) (bit (r == 0)) (r / 2 ^ (W - 1)) (bit_and (bit_xor a b) (bit_xor a r) / 2 ^ (W - 1))
+-- SBB by two differences in 64 bits cut to W: it borrows where one of them does
+pub sbb_by_words : (W a b c s r : ℕ) → IsWidth W → a < 2 ^ W → b < 2 ^ W → c < 2 →
+    s ≡ (a + (2 ^ 64 - b)) % 2 ^ 64 % 2 ^ W → r ≡ (a + (2 ^ 64 - b) + (2 ^ 64 - c)) % 2 ^ 64 % 2 ^ W →
+    IsWords (difference_outcome W a b c) r (bit_or (bit (nat_lt a b)) (bit (nat_lt s c))) (bit (r == 0)) (r / 2 ^ (W - 1))
+    (bit_and (bit_xor a b) (bit_xor a r) / 2 ^ (W - 1))
 unfolding difference_outcome outcome
-sbb_by_words W a b r w p q is_r =
-    let v : (a + (2 ^ W - (b + 1))) % 2 ^ W ≡ r = sym (difference_cut_borrow W a b 1 w p q (lit< tt)) ∙ sym is_r in
-    let word : r < 2 ^ W = rw (← v) (mod_below (a + (2 ^ W - (b + 1))) (2 ^ W) (pow_pos W)) in
+sbb_by_words W a b c s r w p q one is_s is_r =
+    let u : (a + (2 ^ W - b)) % 2 ^ W ≡ s = sym (difference_cut W a b w p q) ∙ sym is_s in
+    let v : (a + (2 ^ W - (b + c))) % 2 ^ W ≡ r = sym (difference_cut_borrow W a b c w p q one) ∙ sym is_r in
+    let word : r < 2 ^ W = rw (← v) (mod_below (a + (2 ^ W - (b + c))) (2 ^ W) (pow_pos W)) in
     record {
       value = v;
-      carry = ap bit (borrow_at_most a b);
+      carry = ap bit (borrow_in_steps W a b c w p q one)
+          ∙ ap (λ m. bit (nat_lt a b || nat_lt m c)) u
+          ∙ bit-or (nat_lt a b) (nat_lt s c);
       zero_flag = ap (λ m. bit (m == 0)) v;
       sign = ap (λ m. bit (top_bit W m)) v ∙ sym (top_bit_is W r (positive W w) word);
-      overflow = ap bit (difference_overflow W a b 1 w p q (lit< tt))
+      overflow = ap bit (difference_overflow W a b c w p q one)
           ∙ ap (λ m. bit (differ (top_bit W a) (top_bit W b) && differ (top_bit W a) (top_bit W m))) v
           ∙ sym (top_and_xor W a b a r (positive W w) p q p word);
     }

@@ -1,7 +1,7 @@
 -- What callers cite, by the goal that it serves. Each lemma's line of meaning stands where it is proved. Declares nothing.
 
 -- carry and borrow at the four widths, by comparisons of words or by a shift
-pub use Rattle.word_arith.proofs.CarryLemmas.{carry_below, carry_at_most, carry_by_shift, borrow_at_most, no_borrow, difference_is_zero}
+pub use Rattle.word_arith.proofs.CarryLemmas.{carry_below, carry_at_most, carry_by_shift, carry_in_steps, borrow_in_steps, borrow_at_most, no_borrow, difference_is_zero}
 -- sums and differences in 64 bits, cut to W
 pub use Rattle.word_arith.proofs.CarryLemmas.{sum_cut, difference_cut, difference_cut_borrow}
 -- signed overflow by top bits, and orders with sign by it

@@ -1,6 +1,6 @@
 -- Carry and borrow at the four widths, by comparisons and shifts of words.
 use Rattle.std.proofs.Common.{◌≡◌, ℕ, ◌+◌, ◌-◌, ◌/◌, ◌%◌, ◌^◌, ◌<◌, arith}
-use Rattle.std.specs.Prelude.{nat_le, nat_lt, ◌==◌, not}
+use Rattle.std.specs.Prelude.{nat_le, nat_lt, ◌==◌, ◌||◌, not}
 use Rattle.std.proofs.lemmas.Bool.Decides.{nat_tests}
 use Rattle.word_arith.specs.Width.{IsWidth}
 use Rattle.word_arith.specs.Bits.{bit}
@@ -40,3 +40,13 @@ borrow_at_most a b = grind (arith, nat_tests)
 -- a difference does not borrow where the second operand is at most the first
 pub no_borrow : (a b : ℕ) → not (nat_lt a b) ≡ nat_le b a
 no_borrow a b = grind (arith, nat_tests)
+
+-- a sum with a carry in carries in one of its two steps
+pub carry_in_steps : (W a b c : ℕ) → IsWidth W → a < 2 ^ W → b < 2 ^ W → c < 2 →
+    nat_le (2 ^ W) (a + b + c) ≡ (nat_lt ((a + b) % 2 ^ W) a || nat_lt ((a + b + c) % 2 ^ W) ((a + b) % 2 ^ W))
+carry_in_steps W a b c w p q r = grind (arith, nat_tests)
+
+-- a difference with a borrow in borrows in one of its two steps
+pub borrow_in_steps : (W a b c : ℕ) → IsWidth W → a < 2 ^ W → b < 2 ^ W → c < 2 →
+    nat_lt a (b + c) ≡ (nat_lt a b || nat_lt ((a + (2 ^ W - b)) % 2 ^ W) c)
+borrow_in_steps W a b c w p q r = grind (arith, nat_tests)
