@@ -6,3 +6,5 @@ pub mod Selected
 pub mod LineUnfolds
 pub mod LineCarried
 pub mod LineRead
+pub mod GuardedRuns
+pub mod LineTranslated

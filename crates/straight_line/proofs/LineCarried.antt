@@ -1,9 +1,7 @@
 -- The passes one behind the other carry a line.
 use Rattle.std.proofs.Common.{◌≡◌, ℕ, ◌+◌, ◌*◌, ◌^◌, ◌<◌, ◌==◌, Bool, true, false, List, [], ◌∷◌, ◌++◌, map, length, refl, sym, ap, ◌∙◌, subst, arith, Option}
-use Rattle.std.proofs.lemmas.List.{length-map}
 use Rattle.std.specs.Prelude.{if◌then◌else◌, pos}
 use Rattle.std.specs.List.{AllByRecursion}
-use Rattle.std.proofs.lemmas.Int.{ints}
 use Rattle.behavior.specs.Tree.{Tree, Next, ◌then◌}
 use Rattle.behavior.specs.Acts.{Permission}
 use Rattle.behavior.specs.Seen.{trace, placed, lowered}
@@ -12,7 +10,7 @@ use Rattle.behavior.proofs.Paths.{then-assoc}
 use Rattle.behavior.proofs.SeenLemmas.{sees-trace, placed-to_trace, lowered-to_trace}
 use Rattle.behavior.proofs.Beside.{Beside, give, spend, beside_keeps}
 use Rattle.behavior.proofs.KeepsLemmas.{keeps_through, keeps_wider, keeps_coarser, keeps_faster, keeps_first, keeps_then_more, next_through, next_wider}
-use Rattle.behavior.proofs.Blocks.{Unfolds, AreBlocks, Advances, begins_advances, blocks_forward, blocks_backward}
+use Rattle.behavior.proofs.Blocks.{Unfolds, AreBlocks, Advances, begins_advances}
 use Rattle.x64_table.specs.declared.narrow.PlacedNarrow.{PlacedNarrow}
 use Rattle.x64_table.specs.Machine.{X64, Exit, State, Return, resolve, no_sites, x64_step}
 use Rattle.a64_table.specs.declared.narrow.XReg.{XReg}
@@ -25,8 +23,7 @@ use Rattle.a64_table.proofs.MachineLemmas.{words-append, lands, words_unfold, wo
 use Rattle.straight_line.specs.declared.steps.Step.{Step}
 use Rattle.straight_line.specs.Line.{IsStraight, Stand, x64_rows}
 use Rattle.straight_line.specs.Passes.{SameRegisters, Returned, LiftsLine, IsSameBank, KeepsPlaced, x, SameNamed, Selected, SelectsWords, ending}
-use Rattle.straight_line.specs.Carried.{Starts, CarriesLine}
-use Rattle.straight_line.proofs.Lists.{all_append}
+use Rattle.straight_line.specs.Carried.{Starts}
 use Rattle.straight_line.proofs.LineUnfolds.{line_unfolds}
 
 -- a return and the words behind it: X16 has the popped address
@@ -67,12 +64,12 @@ passes_next : (a : Next Exit) (c : Next (ℕ × AState)) → Through (Through (S
 passes_next a c (b, before, last) = next_wider popped a c (next_through a c (b, next_through a b before, last))
 
 -- what the passes say of a line and its words, and the words with their ending
-record Passes (first : ℕ) (line : List PlacedNarrow) (ws : List (A64 XReg)) : Type 0 where
-  steps : List Step
-  with_fences : List Step
-  lifts : LiftsLine first line steps
-  fences : KeepsPlaced steps with_fences
-  selects : SelectsWords with_fences ws
+pub record Passes (first : ℕ) (line : List PlacedNarrow) (ws : List (A64 XReg)) : Type 0 where
+  pub steps : List Step
+  pub with_fences : List Step
+  pub lifts : LiftsLine first line steps
+  pub fences : KeepsPlaced steps with_fences
+  pub selects : SelectsWords with_fences ws
 
 registers : (first code : ℕ) (s : X64) (t : AThread) → Starts first code s t → SameRegisters s t.state.regs
 registers first code s t starts = record { same = starts.same; fit = λ n lt. subst (λ v. v < 2 ^ 64) (starts.same n lt) (starts.fit n) }
@@ -92,16 +89,16 @@ rows_keep first code line ws passes may s t starts =
     keeps_wider trace 24 0 0 (Through (Through (SameNext Returned) (SameNext IsSameBank)) (SameNext Selected)) (SameNext Popped) (omega arith) passes_next all
 
 -- the whole thread of words
-abbrev code_tree : (may : Permission) (code : ℕ) → List (A64 XReg) → AThread → Tree (Next AThread)
+abbrev pub code_tree : (may : Permission) (code : ℕ) → List (A64 XReg) → AThread → Tree (Next AThread)
 code_tree may code ws t = a64_words xregs may code (ws ++ ending) 0 t.state then lands (code + 4 * length (ws ++ ending))
 
-code_parts : (may : Permission) (code end : ℕ) (ws : List (A64 XReg)) (s : AState)
+pub code_parts : (may : Permission) (code end : ℕ) (ws : List (A64 XReg)) (s : AState)
     → (a64_words xregs may code ws 0 s then (λ r. a64_words xregs may (code + 4 * length ws) ending r.0 r.1 then lands end)) ≡ (a64_words xregs may code (ws ++ ending) 0 s then lands end)
 code_parts may code end ws s =
     sym (then-assoc (a64_words xregs may code ws 0 s) (λ r. a64_words xregs may (code + 4 * length ws) ending r.0 r.1) (lands end))
     ∙ ap (λ t. t then lands end) (sym (words-append may ws ending code 0 s))
 
-threads_keep : (first code : ℕ) (p : PlacedNarrow) (ps : List PlacedNarrow) (ws : List (A64 XReg)) → Passes first (p ∷ ps) ws → (may : Permission) (s : X64) (t : AThread) → Starts first code s t
+pub threads_keep : (first code : ℕ) (p : PlacedNarrow) (ps : List PlacedNarrow) (ws : List (A64 XReg)) → Passes first (p ∷ ps) ws → (may : Permission) (s : X64) (t : AThread) → Starts first code s t
     → Keeps trace 256 0 (SameNext (Starts first code)) (x64_rows may (p ∷ ps) s then resolve no_sites) (code_tree may code ws t)
 threads_keep first code p ps ws passes may s t starts =
     let end = code + 4 * length (ws ++ ending) in
@@ -115,14 +112,14 @@ threads_keep first code p ps ws passes may s t starts =
 
 -- ---- the machines
 
-source_blocks : (may : Permission) (placed : ℕ → Option PlacedNarrow) (first : ℕ) (p : PlacedNarrow) (ps : List PlacedNarrow) → IsStraight first (p ∷ ps) → Stand placed (p ∷ ps)
+pub source_blocks : (may : Permission) (placed : ℕ → Option PlacedNarrow) (first : ℕ) (p : PlacedNarrow) (ps : List PlacedNarrow) → IsStraight first (p ∷ ps) → Stand placed (p ∷ ps)
     → AreBlocks (x64_step may placed no_sites) (λ (s : X64). s.at ≡ first) (λ s. x64_rows may (p ∷ ps) s then resolve no_sites)
 source_blocks may placed first p ps straight found = record {
   unfolds = λ s at. line_unfolds may placed no_sites p ps first straight.stands found s at;
   advances = λ s at. begins_advances _;
 }
 
-abbrev Forwards : List (A64 XReg) → Type 0
+abbrev pub Forwards : List (A64 XReg) → Type 0
 Forwards ws = AllByRecursion IsForward (ws ++ ending)
 
 target_unfolds : (may : Permission) (code : ℕ) (ws : List (A64 XReg)) → AllByRecursion InRange (ws ++ ending) → Forwards ws → code + 4 * length (ws ++ ending) < 2 ^ 63
@@ -135,7 +132,7 @@ target_advances : (may : Permission) (code : ℕ) (ws : List (A64 XReg)) (t : AT
 target_advances may code [] t = begins_advances _
 target_advances may code (w ∷ ws) t = begins_advances _
 
-target_blocks : (may : Permission) (code : ℕ) (ws : List (A64 XReg)) → AllByRecursion InRange (ws ++ ending) → Forwards ws → code + 4 * length (ws ++ ending) < 2 ^ 63
+pub target_blocks : (may : Permission) (code : ℕ) (ws : List (A64 XReg)) → AllByRecursion InRange (ws ++ ending) → Forwards ws → code + 4 * length (ws ++ ending) < 2 ^ 63
     → AreBlocks (a64_step may code (map word_of (ws ++ ending))) (λ (t : AThread). t.at ≡ code) (code_tree may code ws)
 target_blocks may code ws range forward low = record {
   unfolds = λ t at. subst (λ a. Unfolds (a64_step may code (map word_of (ws ++ ending))) (a64_step may code (map word_of (ws ++ ending)) (record { at = a; state = t.state })) (code_tree may code ws t)) (sym at)
@@ -143,32 +140,5 @@ target_blocks may code ws range forward low = record {
   advances = λ t at. target_advances may code ws t;
 }
 
-leads : (first code : ℕ) (s : X64) (t : AThread) → Starts first code s t → (s.at ≡ first) × (t.at ≡ code)
+pub leads : (first code : ℕ) (s : X64) (t : AThread) → Starts first code s t → (s.at ≡ first) × (t.at ≡ code)
 leads first code s t starts = (starts.source_at, starts.target_at)
-
-carries_cons : (first code : ℕ) (p : PlacedNarrow) (ps : List PlacedNarrow) (ws : List (A64 XReg)) → IsStraight first (p ∷ ps) → Passes first (p ∷ ps) ws
-    → AllByRecursion InRange (ws ++ ending) → Forwards ws → code + 4 * length (ws ++ ending) < 2 ^ 63 → CarriesLine first (p ∷ ps) code (map word_of (ws ++ ending))
-carries_cons first code p ps ws straight passes range forward low = record {
-  backward = λ may placed found s t starts. blocks_backward 256 (Starts first code) (x64_step may placed no_sites) (λ s. x64_rows may (p ∷ ps) s then resolve no_sites) (λ s. s.at ≡ first) (source_blocks may placed first p ps straight found)
-      (a64_step may code (map word_of (ws ++ ending))) (code_tree may code ws) (λ t. t.at ≡ code) (target_blocks may code ws range forward low) (leads first code) (threads_keep first code p ps ws passes may) s t starts;
-  forward = λ may placed found s t starts. blocks_forward 256 (Starts first code) (x64_step may placed no_sites) (λ s. x64_rows may (p ∷ ps) s then resolve no_sites) (λ s. s.at ≡ first) (source_blocks may placed first p ps straight found)
-      (a64_step may code (map word_of (ws ++ ending))) (code_tree may code ws) (λ t. t.at ≡ code) (target_blocks may code ws range forward low) (leads first code) (threads_keep first code p ps ws passes may) s t starts;
-}
-
-carries_line : (first code : ℕ) (line : List PlacedNarrow) (ws : List (A64 XReg)) → IsStraight first line → Passes first line ws
-    → AllByRecursion InRange (ws ++ ending) → Forwards ws → code + 4 * length (ws ++ ending) < 2 ^ 63 → CarriesLine first line code (map word_of (ws ++ ending))
-carries_line first code [] ws straight passes range forward low = absurd straight.returns
-carries_line first code (p ∷ ps) ws straight passes range forward low = carries_cons first code p ps ws straight passes range forward low
-
-ending_range : AllByRecursion InRange ending
-ending_range = (((omega arith, λ e. absurd (omega (arith, e))), grind (arith, ints), grind (arith, ints)), ((omega arith, omega arith), ((omega arith, omega arith), tt)))
-
--- the passes together carry the line
-pub carries : (first code : ℕ) (line : List PlacedNarrow) (steps with_fences : List Step) (ws : List (A64 XReg)) (laid : List ℕ) → IsStraight first line
-    → LiftsLine first line steps → KeepsPlaced steps with_fences → SelectsWords with_fences ws → AllByRecursion InRange ws → AllByRecursion IsForward ws
-    → laid ≡ map word_of (ws ++ ending) → code + 4 * length laid < 2 ^ 63 → CarriesLine first line code laid
-carries first code line steps with_fences ws laid straight lifts fences selects range forward same below =
-    let long : length laid ≡ length (ws ++ ending) = ap length same ∙ length-map (ws ++ ending) word_of in
-    let whole = carries_line first code line ws straight (record { steps = steps; with_fences = with_fences; lifts = lifts; fences = fences; selects = selects })
-    (all_append InRange ws ending range ending_range) (all_append IsForward ws ending forward ((1, refl, omega arith), (tt, (tt, tt)))) (omega (arith, below, long)) in
-    subst (λ l. CarriesLine first line code l) (sym same) whole

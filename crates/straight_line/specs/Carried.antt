@@ -1,11 +1,16 @@
 -- What it means that words carry a straight line.
-use Rattle.std.specs.Prelude.{◌≡◌, ℕ, ◌^◌, ◌<◌, List, Option}
+use Rattle.std.specs.Prelude.{◌≡◌, false, ℕ, ◌^◌, ◌<◌, List, Option}
+use Rattle.ev_graph.specs.declared.events.Item.{Item}
+use Rattle.ev_graph.specs.declared.events.End.{End}
 use Rattle.behavior.specs.Acts.{Permission}
+use Rattle.behavior.specs.Run.{Run}
+use Rattle.behavior.specs.Seen.{lowered}
 use Rattle.behavior.specs.Kept.{Backward, Forward}
 use Rattle.x64_table.specs.declared.narrow.PlacedNarrow.{PlacedNarrow}
 use Rattle.x64_table.specs.Machine.{X64, x64_step, no_sites}
 use Rattle.a64_table.specs.Machine.{AThread, a64_step}
 use Rattle.straight_line.specs.Line.{Stand}
+use Rattle.straight_line.specs.Guarded.{Guarded}
 
 -- a thread of x86 before the line and one of Arm before the words hold the same in their sixteen registers, and all fits 64 bits
 pub record Starts (first code : ℕ) (s : X64) (t : AThread) : Type 0 where
@@ -22,3 +27,6 @@ pub record CarriesLine (first : ℕ) (line : List PlacedNarrow) (code : ℕ) (wo
       → Backward (x64_step may placed no_sites) s (a64_step may code words) t
   pub forward : (may : Permission) (placed : ℕ → Option PlacedNarrow) → Stand placed line → (s : X64) (t : AThread) → Starts first code s t
       → Forward 256 (x64_step may placed no_sites) s (a64_step may code words) t
+  -- and each run of the words has a load barrier between a read and each later access, and a store barrier between writes
+  pub guarded : (may : Permission) (t : AThread) → t.at ≡ code → ((n : ℕ) → t.state.regs n < 2 ^ 64) → (made : List Item) (end : End) (n : ℕ)
+      → Run (a64_step may code words) t made end n → Guarded false false (lowered made)

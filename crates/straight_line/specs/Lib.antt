@@ -2,4 +2,5 @@ pub mod Line
 pub mod Reading
 pub mod Steps
 pub mod Passes
+pub mod Guarded
 pub mod Carried

@@ -29,6 +29,7 @@ IsNarrow (Move32 to n) = (to < 8) × (n < 2 ^ 32)
 IsNarrow (Move64 to n) = (to < 8) × (n < 2 ^ 64)
 IsNarrow Ret = Unit {0}
 
+-- the same of what stands at an address
 abbrev pub HoldsNarrow : PlacedNarrow → Type 0
 HoldsNarrow p = IsNarrow p.instr
 

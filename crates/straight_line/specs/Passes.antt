@@ -28,6 +28,7 @@ lifted_narrow (instrs.Move32 to n) place = Number to n ∷ []
 lifted_narrow (instrs.Move64 to n) place = Number to n ∷ []
 lifted_narrow instrs.Ret place = Load 16 4 place ∷ Add 4 4 8 ∷ []
 
+-- the steps of an instruction where it stands
 abbrev pub lifted : PlacedNarrow → List Step
 lifted p = lifted_narrow p.instr p.address
 
@@ -62,6 +63,7 @@ fenced WriteFence = WriteFence ∷ []
 abbrev pub IsFenced : List Step → List Step → Type 0
 IsFenced xs ys = ys ≡ flat_map fenced xs
 
+-- the same registers
 abbrev pub IsSameBank : Bank → Bank → Type 0
 IsSameBank a b = a ≡ b
 
@@ -71,6 +73,7 @@ KeepsPlaced xs ys = (may : Permission) (i : Bank) → Keeps placed 2 0 (SameNext
 
 -- ---- selection
 
+-- the register Xn, or the zero register for 31
 abbrev pub x : ℕ → XReg
 x n = record { number = n }
 

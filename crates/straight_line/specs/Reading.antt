@@ -6,6 +6,7 @@ use Rattle.x64_table.specs.declared.narrow.Narrow.TheVariants.{Move, Load, Store
 use Rattle.x64_table.specs.declared.narrow.PlacedNarrow.{PlacedNarrow}
 use Rattle.x64_table.specs.Reading.{reading, within}
 
+-- whether an instruction returns
 abbrev pub is_return : Narrow → Bool
 is_return (Move to from) = false
 is_return (Load to base) = false

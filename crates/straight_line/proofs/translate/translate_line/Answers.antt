@@ -1,9 +1,9 @@
 use Rattle.std.proofs.lemmas.Result.{IfOk-weaker}
 use Rattle.std.proofs.Common.{◌≡◌, ℕ, ◌+◌, ◌*◌, ◌^◌, ◌<◌, ◌++◌, map, length, ap, ◌∙◌, subst}
 use Rattle.a64_table.specs.Words.{word_of}
-use Rattle.straight_line.specs.Passes.{LiftsLine, KeepsPlaced, SelectsWords, ending}
+use Rattle.straight_line.specs.Passes.{LiftsLine, IsFenced, KeepsPlaced, SelectsWords, ending}
 use Rattle.straight_line.specs.Carried.{CarriesLine}
-use Rattle.straight_line.proofs.LineCarried.{carries}
+use Rattle.straight_line.proofs.LineTranslated.{carries}
 use Rattle.straight_line.proofs.translate.translate_line.Goals as goal
 
 pub returns : goal.returns
@@ -15,7 +15,8 @@ returns c =
     let ws = c.in_ok-words.words.items in
     let lifts : LiftsLine first line steps = c.in_ok-steps.ensures.meaning first c.requires in
     let fences : KeepsPlaced steps fenced_steps = subst (λ l. KeepsPlaced l fenced_steps) c.deref.ensures.value c.in_ok-with_fences.ensures.meaning in
+    let placed : IsFenced steps fenced_steps = subst (λ l. IsFenced l fenced_steps) c.deref.ensures.value c.in_ok-with_fences.ensures.fences in
     let selects : SelectsWords fenced_steps ws = subst (λ l. SelectsWords l ws) c.deref-2.ensures.value c.in_ok-words.ensures.meaning in
     IfOk-weaker c.lay_out.result (λ code. code.items ≡ map word_of (c.deref-3.result.now ++ ending)) (λ words. (code : ℕ) → code + 4 * length words.items < 2 ^ 63 → CarriesLine first line code words.items)
-    (λ words same code below. carries first code line steps fenced_steps ws words.items c.requires lifts fences selects c.in_ok-words.ensures.range c.in_ok-words.ensures.forward (same ∙ ap (λ l. map word_of (l ++ ending)) c.deref-3.ensures.value) below)
+    (λ words same code below. carries first code line steps fenced_steps ws words.items c.requires lifts placed fences selects c.in_ok-words.ensures.range c.in_ok-words.ensures.forward (same ∙ ap (λ l. map word_of (l ++ ending)) c.deref-3.ensures.value) below)
     c.lay_out.ensures
