@@ -1,15 +1,14 @@
 -- The files that are made of a code, cells and symbols: how they are written, and what is read from them.
-use Rattle.std.proofs.Common.{◌≡◌, ℕ, ◌+◌, ◌-◌, ◌*◌, ◌/◌, ◌^◌, ◌<◌, ◌≤◌, List, [], ◌∷◌, ◌++◌, length, drop, take, arith, sym, ◌∙◌, ap, refl, subst, append_assoc, append-nil, length-append}
-use Rattle.ev_graph.specs.Memory.{Part}
+use Rattle.std.proofs.Common.{◌≡◌, ℕ, ◌+◌, ◌^◌, ◌<◌, ◌≤◌, List, [], ◌∷◌, ◌++◌, length, arith, sym, ◌∙◌, ap, refl, subst, append_assoc, append-nil, length-append}
 use Rattle.lasagne.specs.declared.elf_parts.Symbol.{Symbol}
-use Rattle.lasagne.specs.Bytes.{number_at, range_at, padded, rounded_up}
+use Rattle.lasagne.specs.Bytes.{number_at, range_at, padded}
 use Rattle.std.proofs.Common.{lit<, lit≤}
 use Rattle.lasagne.specs.ElfParts.{file_header, program_header, symbol_table, string_table}
 use Rattle.lasagne.specs.ElfFile.{segments_of, segments_from, symbol_section_from, symbol_value, value_from, address_of}
 use Rattle.lasagne.specs.ImageFile.{header_of}
 use Rattle.lasagne.specs.BuiltFile.{cells_at, code_segment, cells_segment, built_header, code_header, cells_header, built_headers, built_sections, built_file}
-use Rattle.lasagne.proofs.Reading.{length-padded, number_there, range_there, range_here}
-use Rattle.lasagne.proofs.ReadParts.{Begins, begins_self, begins_more, range_between, segments_step, segment_read, FitsFields}
+use Rattle.lasagne.proofs.Reading.{length-padded, number_there}
+use Rattle.lasagne.proofs.ReadParts.{Begins, begins_self, begins_more, range_between, segments_step, segment_read}
 use Rattle.lasagne.proofs.ReadImage.{header_sections_at, header_section_count}
 use Rattle.lasagne.proofs.ReadThreads.{AreWell, address_in}
 use Rattle.lasagne.proofs.ReadSymbols.{tables_sections, symbol_section_found, symbol_value_found, entries_counted, table_searched}

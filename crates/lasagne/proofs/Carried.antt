@@ -1,18 +1,17 @@
 -- The image of a narrow file carries it.
-use Rattle.std.proofs.Common.{◌≡◌, ℕ, ◌+◌, ◌-◌, ◌*◌, ◌/◌, ◌%◌, ◌^◌, ◌<◌, ◌≤◌, Bool, true, false, List, [], ◌∷◌, ◌++◌, length, arith, sym, ◌∙◌, ap, refl, subst, lit<, lit≤, length-append, eqb-true}
+use Rattle.std.proofs.Common.{◌≡◌, ℕ, ◌+◌, ◌^◌, ◌<◌, ◌≤◌, Bool, true, false, List, [], ◌∷◌, ◌++◌, length, arith, sym, ◌∙◌, ap, refl, subst, lit<, lit≤, length-append, eqb-true}
 use Rattle.std.specs.Prelude.{◌==◌, bit_and, flat_map, if◌then◌else◌, replicate}
 use Rattle.std.proofs.lemmas.Bool.Decides.{nat_tests}
 use Rattle.std.specs.List.{AllByRecursion}
 use Rattle.ev_graph.specs.declared.execution.Execution.{Execution}
 use Rattle.ev_graph.specs.declared.execution.Stack.{Stack}
-use Rattle.ev_graph.specs.Memory.{Part, Fits, IsOffStacks, Apart}
+use Rattle.ev_graph.specs.Memory.{Part, Fits, IsOffStacks}
 use Rattle.x64_syntax.specs.declared.slots.Slot.{Slot}
 use Rattle.byteorder.specs.Endian.{little_bytes}
-use Rattle.lasagne.specs.Bytes.{rounded_up}
 use Rattle.lasagne.specs.BuiltFile.{narrow_file, code_segment, cells_segment}
 use Rattle.lasagne.specs.ElfFile.{segments_of, threads_of}
-use Rattle.lasagne.specs.ElfParts.{symbol_table, string_table, symbol_names, symbol_entries}
-use Rattle.lasagne.specs.ImageFile.{image_file, code_part, offset_after, end_of, parts_at, places_of, places_from, thread_symbols, section_names}
+use Rattle.lasagne.specs.ElfParts.{symbol_table, string_table, symbol_entries}
+use Rattle.lasagne.specs.ImageFile.{image_file, code_part, offset_after, places_from, thread_symbols}
 use Rattle.lasagne.specs.Accepted.{HasNoFault}
 use Rattle.order_models.specs.Orders.{Arm}
 use Rattle.order_models.specs.Consistent.{Consistent}
@@ -24,7 +23,6 @@ use Rattle.lasagne.specs.Plan.{summary_of}
 use Rattle.lasagne.specs.Lines.{Placed, AreLines, HasSummary, block_of, blocks_of, distinct}
 use Rattle.lasagne.specs.Return.{return_words}
 use Rattle.lasagne.proofs.Tables.{length-code, length-thread_names}
-use Rattle.lasagne.proofs.ReadParts.{FitsFields, AllFit}
 use Rattle.lasagne.proofs.ReadImage.{segments_of_image}
 use Rattle.lasagne.proofs.ReadSymbols.{IsReadable, threads_of_image, length-symbol_entries}
 use Rattle.lasagne.proofs.Narrow.{segments_of_narrow, threads_of_narrow}

@@ -1,6 +1,6 @@
 -- What is counted of one block is the summary of a program that has one.
-use Rattle.std.proofs.Common.{◌≡◌, ℕ, ◌+◌, List, [], ◌∷◌, length, arith, sym, ◌∙◌, ap, refl}
-use Rattle.std.specs.Prelude.{count_by, sum_by, Option, None, false}
+use Rattle.std.proofs.Common.{◌≡◌, ℕ, List, [], ◌∷◌, length, arith, sym, ◌∙◌, ap, refl}
+use Rattle.std.specs.Prelude.{count_by, sum_by, None, false}
 use Rattle.x64_syntax.specs.declared.slots.Slot.{Slot}
 use Rattle.lasagne.specs.declared.plan.Block.{Block}
 use Rattle.lasagne.specs.declared.plan.Gap.{Gap}

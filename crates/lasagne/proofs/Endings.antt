@@ -1,16 +1,13 @@
 -- How the parts of a command's end come together.
-use Rattle.std.proofs.Common.{◌≡◌, ℕ, ◌+◌, ◌-◌, ◌*◌, ◌^◌, ◌<◌, ◌≤◌, List, [], ◌∷◌, ◌++◌, length, arith, sym, ◌∙◌, ap, refl, subst, inl, inr, get_or}
-use Rattle.std.specs.Prelude.{◌⊎◌, min, Option, Some, None, IfSome, take, codes}
+use Rattle.std.proofs.Common.{◌≡◌, ℕ, ◌<◌, ◌≤◌, List, [], ◌∷◌, length, arith, sym, ◌∙◌, ap, subst, inl, inr, get_or}
+use Rattle.std.specs.Prelude.{Option, Some, None, IfSome, codes}
 use Rattle.lasagne.specs.declared.command.Status.{Status}
 use Rattle.lasagne.specs.declared.command.Status.TheVariants as status
-use Rattle.lasagne.specs.declared.plan.Summary.{Summary}
 use Rattle.lasagne.specs.Ports.{Files, Rose, IsPut, IsTorn, IsLonger, Told, Took, TookPart}
 use Rattle.lasagne.specs.Accepted.{HasNoFault}
 use Rattle.lasagne.specs.Carries.{CarriesInArm}
-use Rattle.lasagne.specs.Counting.{nothing}
-use Rattle.lasagne.specs.Lines.{HasSummary}
-use Rattle.lasagne.specs.Texts.{usage_line, unbuilt_line, translated_line}
-use Rattle.lasagne.specs.Command.{World, Ends, Answers, HasFault, IsSaid, OfImage, HasImageAnd, HasImage, SameFiles, SameTaken}
+use Rattle.lasagne.specs.Texts.{unbuilt_line}
+use Rattle.lasagne.specs.Command.{World, Ends, Answers, HasFault, IsSaid, OfImage, SameFiles}
 use Rattle.lasagne.proofs.Narrow.{narrow_short}
 
 -- a count that rose later rose

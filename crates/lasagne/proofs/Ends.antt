@@ -1,6 +1,5 @@
 -- The highest end of parts, and the address behind it.
-use Rattle.std.proofs.Common.{◌≡◌, ℕ, ◌+◌, ◌-◌, ◌*◌, ◌/◌, ◌%◌, ◌<◌, ◌≤◌, ◌^◌, List, [], ◌∷◌, length, arith, refl}
-use Rattle.std.specs.Prelude.{max}
+use Rattle.std.proofs.Common.{◌≡◌, ℕ, ◌+◌, ◌*◌, ◌/◌, ◌%◌, ◌<◌, ◌≤◌, List, [], ◌∷◌, arith}
 use Rattle.ev_graph.specs.Memory.{Part}
 use Rattle.lasagne.specs.Carries.{EndBefore, highest_end, IsCodeAddress}
 

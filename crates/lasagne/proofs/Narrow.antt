@@ -1,14 +1,13 @@
 -- What is read from a file that has no fault.
-use Rattle.std.proofs.Common.{◌≡◌, ℕ, ◌+◌, ◌-◌, ◌*◌, ◌^◌, ◌<◌, ◌≤◌, List, [], ◌∷◌, ◌++◌, length, drop, take, arith, sym, ◌∙◌, ap, refl, subst, lit<, lit≤}
+use Rattle.std.proofs.Common.{◌≡◌, ℕ, ◌+◌, ◌≤◌, List, [], ◌∷◌, ◌++◌, length, drop, take, arith, sym, ◌∙◌, ap, subst, lit<, lit≤}
 use Rattle.std.proofs.lemmas.List.{length-take, length-drop}
-use Rattle.ev_graph.specs.Memory.{Part}
 use Rattle.lasagne.specs.Bytes.{range_at}
 use Rattle.lasagne.specs.BuiltFile.{cells_at, narrow_file, narrow_symbols, code_segment, cells_segment}
 use Rattle.lasagne.specs.ElfFile.{segments_of, threads_of}
 use Rattle.lasagne.specs.ImageFile.{thread_name, thread_symbols}
 use Rattle.lasagne.specs.Accepted.{HasNoFault}
 use Rattle.lasagne.proofs.Built.{cells_held, segments_of_built, address_in_built, IsBuildable, length-built}
-use Rattle.std.specs.Prelude.{codes, decimal}
+use Rattle.std.specs.Prelude.{codes}
 use Rattle.std.proofs.lemmas.Fmt.{decimal_digit}
 use Rattle.lasagne.specs.declared.elf_parts.Symbol.{Symbol}
 use Rattle.lasagne.specs.ElfFile.{address_of}

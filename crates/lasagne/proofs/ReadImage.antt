@@ -1,16 +1,13 @@
 -- An image's file says the parts and threads that it was written for.
-use Rattle.std.proofs.Common.{◌≡◌, ℕ, ◌+◌, ◌-◌, ◌*◌, ◌/◌, ◌^◌, ◌<◌, ◌≤◌, zero, suc, List, [], ◌∷◌, ◌++◌, length, drop, take, arith, sym, ◌∙◌, ap, refl, subst, append_assoc, append-nil, length-append}
-use Rattle.std.specs.Prelude.{replicate}
-use Rattle.byteorder.specs.Endian.{little_bytes, little_number}
+use Rattle.std.proofs.Common.{◌≡◌, ℕ, ◌+◌, ◌*◌, ◌^◌, ◌<◌, List, [], ◌∷◌, ◌++◌, length, arith, sym, ◌∙◌, ap, refl, subst, append_assoc, length-append}
 use Rattle.byteorder.specs.Numbers.{little_number-reads_back}
 use Rattle.ev_graph.specs.Memory.{Part}
 use Rattle.lasagne.specs.declared.elf_parts.FileHeader.{FileHeader}
-use Rattle.lasagne.specs.Bytes.{number_at, range_at, padded, rounded_up}
-use Rattle.lasagne.specs.ElfParts.{file_header, program_header, symbol_table, string_table}
+use Rattle.lasagne.specs.Bytes.{number_at, padded}
+use Rattle.lasagne.specs.ElfParts.{file_header, program_header}
 use Rattle.lasagne.specs.ElfFile.{segments_from, segments_of}
-use Rattle.lasagne.specs.ImageFile.{offset_after, end_of, header_of, program_headers, with_parts, parts_at, front_of, image_front, image_header, image_file, image_tables, image_sections, places_of, thread_symbols}
-use Rattle.lasagne.proofs.Reading.{length-padded, number_there}
-use Rattle.lasagne.proofs.ReadParts.{Begins, begins_self, begins_more, begins_shorter, begins_with_parts, AllFit, AreHeld, parts_held, segments_read, length-padded_to_offset}
+use Rattle.lasagne.specs.ImageFile.{offset_after, end_of, header_of, program_headers, with_parts, parts_at, image_front, image_header, image_file, image_tables, places_of}
+use Rattle.lasagne.proofs.ReadParts.{Begins, begins_self, begins_more, begins_with_parts, AllFit, AreHeld, parts_held, segments_read, length-padded_to_offset}
 
 -- the fields of the header
 pub header_segments_at : (h : FileHeader) (rest : List ℕ) → number_at (file_header h ++ rest) 32 8 ≡ 64

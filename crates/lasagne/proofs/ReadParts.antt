@@ -1,16 +1,14 @@
 -- The parts that were written are the segments that are read.
-use Rattle.std.proofs.Common.{◌≡◌, ℕ, ◌+◌, ◌-◌, ◌*◌, ◌^◌, ◌<◌, ◌≤◌, zero, suc, List, [], ◌∷◌, ◌++◌, length, drop, take, arith, sym, ◌∙◌, ap, refl, subst, append_assoc, append-nil, length-append, add-one, add-zero}
-use Rattle.std.specs.Prelude.{replicate, ◌==◌, if◌then◌else◌}
-use Rattle.byteorder.specs.Endian.{little_bytes, little_number}
+use Rattle.std.proofs.Common.{◌≡◌, ℕ, ◌+◌, ◌^◌, ◌<◌, suc, List, [], ◌∷◌, ◌++◌, length, arith, sym, ◌∙◌, ap, refl, subst, append_assoc, append-nil, length-append, add-zero}
+use Rattle.std.specs.Prelude.{◌==◌, if◌then◌else◌}
 use Rattle.byteorder.specs.Numbers.{little_number-reads_back}
 use Rattle.ev_graph.specs.Memory.{Part}
-use Rattle.lasagne.specs.declared.elf_parts.FileHeader.{FileHeader}
 use Rattle.lasagne.specs.declared.elf_parts.ProgramHeader.{ProgramHeader}
 use Rattle.lasagne.specs.Bytes.{number_at, range_at, padded}
-use Rattle.lasagne.specs.ElfParts.{file_header, program_header}
-use Rattle.lasagne.specs.ElfFile.{segment_at, segments_from, segments_of}
-use Rattle.lasagne.specs.ImageFile.{offset_after, end_of, header_of, program_headers, with_parts}
-use Rattle.lasagne.proofs.Reading.{number_in_front, range_in_front, number_behind, range_behind, range_here, length-padded, number_there, range_there}
+use Rattle.lasagne.specs.ElfParts.{program_header}
+use Rattle.lasagne.specs.ElfFile.{segment_at, segments_from}
+use Rattle.lasagne.specs.ImageFile.{offset_after, header_of, program_headers, with_parts}
+use Rattle.lasagne.proofs.Reading.{range_here, length-padded, number_there}
 
 -- bytes begin with a front
 pub record Begins (front bytes : List ℕ) : Type 0 where

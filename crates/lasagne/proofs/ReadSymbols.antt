@@ -1,6 +1,6 @@
 -- The threads that an image's file says are those that it was written for.
-use Rattle.std.proofs.Common.{◌≡◌, ℕ, ◌+◌, ◌-◌, ◌*◌, ◌/◌, ◌%◌, ◌^◌, ◌<◌, ◌≤◌, zero, suc, List, [], ◌∷◌, ◌++◌, length, drop, take, arith, sym, ◌∙◌, ap, refl, subst, append_assoc, append-nil, length-append}
-use Rattle.std.specs.Prelude.{replicate, codes, decimal, Option, Some, None, slice_get, ◌==◌, if◌then◌else◌}
+use Rattle.std.proofs.Common.{◌≡◌, ℕ, ◌+◌, ◌*◌, ◌/◌, ◌^◌, ◌<◌, ◌≤◌, suc, List, [], ◌∷◌, ◌++◌, length, arith, sym, ◌∙◌, ap, refl, subst, append_assoc, append-nil, length-append}
+use Rattle.std.specs.Prelude.{replicate, decimal, Some, ◌==◌, if◌then◌else◌}
 use Rattle.std.specs.List.{AllByRecursion}
 use Rattle.std.proofs.Common.{lit<}
 use Rattle.std.proofs.lemmas.Fmt.{length-decimal-le}
@@ -8,13 +8,12 @@ use Rattle.byteorder.specs.Numbers.{little_number-reads_back}
 use Rattle.ev_graph.specs.Memory.{Part}
 use Rattle.lasagne.specs.declared.elf_parts.SectionHeader.{SectionHeader}
 use Rattle.lasagne.specs.declared.elf_parts.Symbol.{Symbol}
-use Rattle.lasagne.specs.declared.image.Places.{Places}
 use Rattle.lasagne.specs.Bytes.{number_at, range_at, padded, rounded_up}
 use Rattle.lasagne.specs.ElfParts.{file_header, section_header, symbol_section, string_section, symbol_table, string_table, symbol_entries, symbol_names, spelled, symbol_fields}
-use Rattle.lasagne.specs.ElfFile.{symbol_section_from, section_bytes, symbol_value, address_of, value_from, threads_of, threads_from}
-use Rattle.lasagne.specs.ImageFile.{parts_at, end_of, program_headers, image_front, image_header, image_file, image_tables, image_sections, places_of, places_from, section_names, thread_name, thread_symbols}
-use Rattle.lasagne.proofs.Reading.{length-padded, number_there, range_there, range_here}
-use Rattle.lasagne.proofs.ReadParts.{Begins, AllFit, begins_more, range_between}
+use Rattle.lasagne.specs.ElfFile.{symbol_section_from, section_bytes, symbol_value, address_of, value_from, threads_of}
+use Rattle.lasagne.specs.ImageFile.{parts_at, end_of, program_headers, image_front, image_header, image_file, image_tables, places_of, places_from, section_names, thread_name, thread_symbols}
+use Rattle.lasagne.proofs.Reading.{length-padded, number_there}
+use Rattle.lasagne.proofs.ReadParts.{Begins, AllFit, range_between}
 use Rattle.lasagne.proofs.ReadImage.{headers_begin, header_sections_at, header_section_count, length-image_front}
 use Rattle.lasagne.proofs.ReadThreads.{AreWell, address_in, values_found, thread_found, threads_counted, HasNoZero-thread_name}
 

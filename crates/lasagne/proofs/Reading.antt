@@ -1,10 +1,8 @@
 -- What is read back from bytes that were put together.
-use Rattle.std.proofs.Common.{◌≡◌, ℕ, ◌+◌, ◌-◌, ◌*◌, ◌^◌, ◌<◌, ◌≤◌, zero, suc, List, [], ◌∷◌, ◌++◌, length, drop, take, arith, sym, ◌∙◌, ap, refl, append_assoc, length-append}
-use Rattle.std.specs.Prelude.{replicate}
+use Rattle.std.proofs.Common.{◌≡◌, ℕ, ◌+◌, ◌≤◌, List, ◌++◌, length, drop, arith, refl, length-append}
 use Rattle.std.proofs.lemmas.List.{drop-append-le, take-append-le, length-drop, length-replicate}
 use Rattle.std.proofs.Math.Seq.{drop-append-add, drop-append_seam, take-append_seam}
-use Rattle.byteorder.specs.Endian.{little_bytes, little_number}
-use Rattle.byteorder.specs.Numbers.{little_from-append, little_number-reads_back}
+use Rattle.byteorder.specs.Numbers.{little_from-append}
 use Rattle.lasagne.specs.Bytes.{number_at, range_at, padded}
 
 -- a number that lies in the front is read from it

@@ -1,9 +1,9 @@
 -- Files by name in a list: where one is, and what putting one changes.
-use Rattle.std.proofs.Common.{◌≡◌, ◌≢◌, ℕ, zero, suc, ◌+◌, ◌<◌, ◌≤◌, Bool, true, false, List, [], ◌∷◌, ◌++◌, length, arith, sym, ◌∙◌, ap, refl, subst}
-use Rattle.std.specs.Prelude.{Option, Some, None, option_map, slice_set, if◌then◌else◌, ◌⊎◌}
+use Rattle.std.proofs.Common.{◌≡◌, ◌≢◌, ℕ, suc, ◌<◌, Bool, true, false, List, [], ◌∷◌, ◌++◌, length, arith, sym, ◌∙◌, ap, refl}
+use Rattle.std.specs.Prelude.{Option, Some, None, option_map, slice_set, if◌then◌else◌}
 use Rattle.std.specs.Str.{bytes_eq}
 use Rattle.std.proofs.lemmas.Slice.Eq.{bytes_eq-Decides}
-use Rattle.std.proofs.Common.{inl, inr, take}
+use Rattle.std.proofs.Common.{inr, take}
 use Rattle.lasagne.specs.Ports.{IsPut, IsTorn}
 use Rattle.lasagne.specs.Memories.{Named, file_at, with_file, place_of}
 

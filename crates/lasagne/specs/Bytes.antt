@@ -1,5 +1,5 @@
 -- Numbers and places in the bytes of a file. All numbers are little-endian.
-use Rattle.std.specs.Prelude.{ℕ, ◌+◌, ◌-◌, ◌*◌, ◌/◌, ◌%◌, List, ◌++◌, length, drop, take, replicate}
+use Rattle.std.specs.Prelude.{ℕ, ◌+◌, ◌-◌, ◌*◌, ◌/◌, List, ◌++◌, length, drop, take, replicate}
 use Rattle.byteorder.specs.Endian.{little_number}
 
 -- the number in `size` bytes at an offset; a byte past the end counts as 0

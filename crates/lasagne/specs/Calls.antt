@@ -1,5 +1,5 @@
 -- How the calls of a shelf and of a sink in memory are counted.
-use Rattle.std.specs.Prelude.{◌≡◌, ◌+◌, Bool, true, false}
+use Rattle.std.specs.Prelude.{◌≡◌, ◌+◌, true, false}
 use Rattle.lasagne.specs.declared.ports.calls.Call.{Call}
 use Rattle.lasagne.specs.declared.ports.calls.Call.TheVariants.{Spent, Listed, Fine}
 use Rattle.lasagne.specs.Memories.{ShelfState, SinkState, is_spent, is_listed, shelf_called, shelf_failed}

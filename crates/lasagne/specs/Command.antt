@@ -1,5 +1,5 @@
 -- How a call ends: for each status when it comes, and what it leaves.
-use Rattle.std.specs.Prelude.{◌≡◌, ◌⊎◌, ◌<◌, ℕ, List, [], ◌∷◌, codes, length, Option, Some, None, IfSome}
+use Rattle.std.specs.Prelude.{◌≡◌, ◌⊎◌, ℕ, List, [], ◌∷◌, codes, Option, Some, IfSome}
 use Rattle.lasagne.specs.declared.command.Status.{Status}
 use Rattle.lasagne.specs.declared.command.Status.TheVariants.{Done, Refused, Usage, ReadFailed, WriteFailed, NoMemory, NotExplained, OutFailed}
 use Rattle.lasagne.specs.declared.plan.Summary.{Summary}

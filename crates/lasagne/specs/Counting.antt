@@ -1,5 +1,5 @@
 -- What is counted of marks from one place on, for the walk that counts them.
-use Rattle.std.specs.Prelude.{ℕ, ◌+◌, Bool, true, false, List, [], ◌∷◌, length, count_by, Option}
+use Rattle.std.specs.Prelude.{ℕ, ◌+◌, Bool, true, false, List, length, count_by, Option}
 use Rattle.x64_syntax.specs.declared.slots.Slot.{Slot}
 use Rattle.x64_syntax.specs.declared.slots.SlotKind.{SlotKind}
 use Rattle.lasagne.specs.declared.plan.Mark.{Mark}

@@ -75,7 +75,7 @@ section_header_fields s =
 abbrev pub section_header : SectionHeader → List ℕ
 section_header s = spelled (section_header_fields s)
 
--- the section of a symbol table (SHT_SYMTAB, 2) whose names are in section 2
+-- the section of a symbol table (SHT_SYMTAB, 2) whose names stand in the section behind it, number 2
 abbrev pub symbol_section : ℕ → ℕ → ℕ → SectionHeader
 symbol_section name offset size = record { name = name; kind = 2; offset = offset; size = size; link = 2; info = 1; alignment = 8; entry_size = 24 }
 

@@ -1,5 +1,5 @@
 -- The parts of an image, and what its writer needs of it.
-use Rattle.std.specs.Prelude.{◌≡◌, ◌≤◌, ◌<◌, ℕ, ◌+◌, ◌*◌, ◌^◌, List, [], ◌∷◌, ◌++◌, length, map}
+use Rattle.std.specs.Prelude.{◌≤◌, ◌<◌, List, [], ◌∷◌, ◌++◌, length, map}
 use Rattle.ev_graph.specs.Memory.{Part}
 use Rattle.lasagne.specs.declared.image.Image.{Image}
 use Rattle.lasagne.specs.declared.image.ImageSegment.{ImageSegment}

@@ -1,5 +1,5 @@
 -- The bytes of an image file: header, program headers, the parts' bytes, symbols, strings, section names, section headers.
-use Rattle.std.specs.Prelude.{ℕ, ◌+◌, ◌-◌, ◌*◌, ◌%◌, List, [], ◌∷◌, ◌++◌, length, replicate, slice_index, flat_map, map, codes, decimal}
+use Rattle.std.specs.Prelude.{ℕ, ◌+◌, ◌-◌, ◌*◌, ◌%◌, List, [], ◌∷◌, ◌++◌, length, replicate, slice_index, flat_map, codes, decimal}
 use Rattle.byteorder.specs.Endian.{little_bytes}
 use Rattle.ev_graph.specs.Memory.{Part}
 use Rattle.lasagne.specs.Bytes.{padded, rounded_up}

@@ -7,8 +7,7 @@ use Rattle.x64_table.specs.declared.narrow.Narrow.{Narrow}
 use Rattle.x64_table.specs.declared.narrow.Narrow.TheVariants.{Ret}
 use Rattle.x64_table.specs.Spelling.{Begins}
 use Rattle.x64_table.specs.Slots.{slots}
-use Rattle.lasagne.specs.declared.plan.Mark.{Mark}
-use Rattle.lasagne.specs.declared.plan.Mark.TheVariants.{Access, FullFence}
+use Rattle.lasagne.specs.declared.plan.Mark.TheVariants.{Access}
 use Rattle.lasagne.specs.declared.plan.Block.{Block}
 use Rattle.lasagne.specs.declared.plan.Summary.{Summary}
 use Rattle.lasagne.specs.Bytes.{padded}

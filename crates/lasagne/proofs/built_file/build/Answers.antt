@@ -1,8 +1,8 @@
-use Rattle.std.proofs.Common.{◌≡◌, ◌≤◌, ◌*◌, ◌+◌, ◌∙◌, ap, rules, arith, sym, List, ℕ, [], ◌∷◌, ◌++◌, length, length-append}
+use Rattle.std.proofs.Common.{◌≡◌, ◌*◌, ◌+◌, ◌∙◌, ap, arith, List, ℕ, ◌++◌, length, length-append}
 use Rattle.std.specs.Prelude.{replicate}
 use Rattle.lasagne.specs.Bytes.{padded}
-use Rattle.lasagne.specs.ElfParts.{symbol_names, symbol_entries, symbol_table, string_table}
-use Rattle.lasagne.specs.BuiltFile.{cells_at, built_headers, built_sections}
+use Rattle.lasagne.specs.ElfParts.{symbol_entries, symbol_table, string_table}
+use Rattle.lasagne.specs.BuiltFile.{cells_at, built_headers}
 use Rattle.lasagne.proofs.Tables.{length-short_names}
 use Rattle.lasagne.proofs.Built.{built_written}
 use Rattle.lasagne.proofs.ReadSymbols.{length-symbol_entries}

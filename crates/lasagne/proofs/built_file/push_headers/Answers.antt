@@ -1,4 +1,4 @@
-use Rattle.std.proofs.Common.{◌∙◌, ◌+◌, ap, List, ℕ, ◌++◌}
+use Rattle.std.proofs.Common.{◌∙◌, ◌+◌, ap, ℕ, ◌++◌}
 use Rattle.lasagne.specs.ElfParts.{file_header, program_header}
 use Rattle.lasagne.specs.BuiltFile.{cells_at, built_header, code_header, cells_header}
 use Rattle.lasagne.proofs.Tables.{appended_3}

@@ -1,7 +1,4 @@
-use Rattle.std.proofs.Common.{◌≡◌, ◌∙◌, ap, refl, subst, inl, inr, List, ℕ}
-use Rattle.std.specs.Prelude.{Option}
-use Rattle.lasagne.specs.Ports.{Files, Rose, IsPut, IsTorn, Told, Took, TookPart}
-use Rattle.lasagne.specs.Command.{OfImage, HasImage, HasImageAnd}
+use Rattle.std.proofs.Common.{◌∙◌, refl, inl, inr}
 use Rattle.lasagne.proofs.Endings.{longer_has_fault, unbuilt_has_fault, refused, of_image, rose_later, put_image, torn_image, took_line, took_part}
 use Rattle.lasagne.proofs.command.translate_command.Goals as goal
 

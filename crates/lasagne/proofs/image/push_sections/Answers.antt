@@ -1,4 +1,4 @@
-use Rattle.std.proofs.Common.{◌∙◌, ap, List, ℕ, ◌++◌}
+use Rattle.std.proofs.Common.{◌∙◌, ap, ◌++◌}
 use Rattle.std.specs.Prelude.{replicate}
 use Rattle.lasagne.specs.declared.elf_parts.SectionHeader.{SectionHeader}
 use Rattle.lasagne.specs.ElfParts.{section_header, symbol_section, string_section}

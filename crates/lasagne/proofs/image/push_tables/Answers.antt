@@ -1,4 +1,4 @@
-use Rattle.std.proofs.Common.{◌≡◌, ◌∙◌, ap, length, List, ℕ, ◌++◌}
+use Rattle.std.proofs.Common.{length}
 use Rattle.lasagne.specs.ImageFile.{section_names, image_sections}
 use Rattle.lasagne.proofs.Tables.{tables_built}
 use Rattle.lasagne.proofs.image.push_tables.Goals as goal

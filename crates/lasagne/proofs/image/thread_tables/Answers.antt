@@ -1,4 +1,4 @@
-use Rattle.std.proofs.Common.{◌≡◌, ◌≤◌, ◌*◌, ◌∙◌, ap, arith, length, List, ℕ}
+use Rattle.std.proofs.Common.{◌≡◌, ◌≤◌, ◌*◌, ◌∙◌, ap, arith, length, List}
 use Rattle.lasagne.specs.declared.elf_parts.Symbol.{Symbol}
 use Rattle.lasagne.specs.ElfParts.{symbol_names}
 use Rattle.lasagne.specs.ImageFile.{thread_symbols}

@@ -4,7 +4,7 @@ use Rattle.std.proofs.lemmas.List.{length-map}
 use Rattle.ev_graph.specs.Memory.{Part}
 use Rattle.lasagne.specs.declared.image.ImageSegment.{ImageSegment}
 use Rattle.lasagne.specs.Image.{segment_part, parts_of}
-use Rattle.lasagne.specs.ImageFile.{image_file, thread_symbols}
+use Rattle.lasagne.specs.ImageFile.{image_file}
 use Rattle.lasagne.proofs.Tables.{file_written}
 use Rattle.lasagne.proofs.image.write_image.Goals as goal
 

@@ -1,5 +1,5 @@
-use Rattle.std.proofs.Common.{◌≡◌, ◌∙◌, ap, sym, List, ℕ}
-use Rattle.lasagne.proofs.Narrow.{made_again, long_enough}
+use Rattle.std.proofs.Common.{◌∙◌, sym}
+use Rattle.lasagne.proofs.Narrow.{made_again}
 use Rattle.lasagne.proofs.translation.cells_of.Goals as goal
 
 pub returns-then-is_same-clause-file : goal.returns-then-is_same-clause-file

@@ -1,6 +1,5 @@
-use Rattle.std.proofs.Common.{◌≡◌, ◌≤◌, ◌<◌, ◌+◌, ◌*◌, ◌/◌, ◌%◌, ℕ, arith, map}
+use Rattle.std.proofs.Common.{map}
 use Rattle.lasagne.specs.Image.{segment_part}
-use Rattle.lasagne.specs.Carries.{highest_end}
 use Rattle.lasagne.proofs.Ends.{rounded_is}
 use Rattle.lasagne.proofs.translation.code_address.Goals as goal
 

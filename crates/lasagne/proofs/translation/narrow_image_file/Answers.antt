@@ -1,7 +1,6 @@
-use Rattle.std.proofs.Common.{◌≡◌, ◌∙◌, ap, subst, map, List, ℕ, [], ◌∷◌, ◌++◌}
+use Rattle.std.proofs.Common.{◌∙◌, ap, subst, List, ℕ, [], ◌∷◌, ◌++◌}
 use Rattle.ev_graph.specs.Memory.{Part}
 use Rattle.lasagne.specs.BuiltFile.{code_segment, cells_segment}
-use Rattle.lasagne.specs.Image.{segment_part}
 use Rattle.lasagne.specs.ImageFile.{code_part, image_file}
 use Rattle.lasagne.specs.Carries.{IsCodeAddress, kept}
 use Rattle.lasagne.specs.Return.{return_words}

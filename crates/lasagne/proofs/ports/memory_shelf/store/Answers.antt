@@ -1,5 +1,5 @@
-use Rattle.std.proofs.Common.{◌≡◌, ◌<◌, ℕ, ◌∙◌, ap, sym, subst, arith, length, List, [], ◌∷◌, ◌++◌}
-use Rattle.std.specs.Prelude.{Option, Some, None, slice_set}
+use Rattle.std.proofs.Common.{◌≡◌, ◌<◌, ◌∙◌, ap, sym, arith, length, List, [], ◌∷◌, ◌++◌}
+use Rattle.std.specs.Prelude.{Some, None, slice_set}
 use Rattle.lasagne.specs.Memories.{Named, place_of}
 use Rattle.lasagne.proofs.Stored.{place_within, file_replaced, file_added}
 use Rattle.lasagne.proofs.ports.memory_shelf.store.Goals as goal

@@ -1,4 +1,4 @@
-use Rattle.std.proofs.Common.{◌≡◌, ◌/◌, ◌∙◌, ap, length, List, ℕ}
+use Rattle.std.proofs.Common.{◌/◌, ◌∙◌, ap, length}
 use Rattle.lasagne.specs.Memories.{ShelfState, with_file, first_half}
 use Rattle.lasagne.proofs.Stored.{put_in_memory, torn_in_memory}
 use Rattle.lasagne.proofs.ports.memory_shelf.MemShelfShelf.put.Goals as goal
