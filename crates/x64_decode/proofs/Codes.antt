@@ -20,8 +20,8 @@ same : (a : ℕ) → (a == a) ≡ true
 same a = eq-eqb a a refl
 
 pub agrees-along : (c : Code) (bytes : List ℕ) → agrees c bytes ≡ along (code_bytes c) bytes
-agrees-along (One a) [] = same a
-agrees-along (One a) (x ∷ xs) = sym (and-true (x == a))
+agrees-along (One a) [] = rw (same a) refl
+agrees-along (One a) (x ∷ xs) = refl
 agrees-along (Two a b) [] = rw (same a, same b) refl
 agrees-along (Two a b) (x ∷ []) = rw (same b) refl
 agrees-along (Two a b) (x ∷ y ∷ xs) = rw (and-true (y == b)) refl

@@ -1,5 +1,5 @@
 -- How far given bytes go towards a spelling, row by row.
-use Rattle.std.specs.Prelude.{ℕ, ◌+◌, ◌-◌, ◌*◌, ◌%◌, min, ◌≤◌, Bool, ◌&&◌, ◌==◌, nat_le, if◌then◌else◌, List, [], ◌∷◌, length, take, drop, slice_index_or, Option, Some, None}
+use Rattle.std.specs.Prelude.{ℕ, ◌+◌, ◌-◌, ◌*◌, ◌%◌, min, ◌≤◌, Bool, true, ◌&&◌, ◌==◌, nat_le, if◌then◌else◌, List, [], ◌∷◌, length, take, drop, slice_index_or, Option, Some, None}
 use Rattle.x64_decode.specs.declared.reading.Reading.{Reading}
 use Rattle.x64_decode.specs.declared.reading.Reading.TheVariants.{Done, More, Bad}
 use Rattle.x64_decode.specs.declared.row.Code.{Code}
@@ -13,15 +13,24 @@ use Rattle.x64_decode.specs.Operands.{rest_size}
 use Rattle.x64_decode.specs.Spelling.{allows, code_bytes, takes_memory}
 use Rattle.x64_decode.specs.Table.{table}
 
+-- the first byte of a code
+abbrev pub first_byte : Code → ℕ
+first_byte (code.One a) = a
+first_byte (code.Two a b) = a
+first_byte (code.Three a b c) = a
+first_byte (code.Four a b c d) = a
+
+-- the bytes after the first that are there agree with a code
+abbrev pub others_agree : Code → List ℕ → Bool
+others_agree (code.One a) bytes = true
+others_agree (code.Two a b) bytes = slice_index_or bytes 1 b == b
+others_agree (code.Three a b c) bytes = (slice_index_or bytes 1 b == b) && (slice_index_or bytes 2 c == c)
+others_agree (code.Four a b c d) bytes =
+    (slice_index_or bytes 1 b == b) && ((slice_index_or bytes 2 c == c) && (slice_index_or bytes 3 d == d))
+
 -- the bytes that are there agree with a code
 abbrev pub agrees : Code → List ℕ → Bool
-agrees (code.One a) bytes = slice_index_or bytes 0 a == a
-agrees (code.Two a b) bytes = (slice_index_or bytes 0 a == a) && (slice_index_or bytes 1 b == b)
-agrees (code.Three a b c) bytes =
-    (slice_index_or bytes 0 a == a) && ((slice_index_or bytes 1 b == b) && (slice_index_or bytes 2 c == c))
-agrees (code.Four a b c d) bytes =
-    (slice_index_or bytes 0 a == a)
-    && ((slice_index_or bytes 1 b == b) && ((slice_index_or bytes 2 c == c) && (slice_index_or bytes 3 d == d)))
+agrees c bytes = (slice_index_or bytes 0 (first_byte c) == first_byte c) && others_agree c bytes
 
 -- the number in ModRM's reg field, 0 where the row asks for none
 abbrev pub digit_of : Option ℕ → ℕ

@@ -1,5 +1,5 @@
 ghost use Rattle.std.specs.Prelude.{◌≡◌, ◌+◌, ◌<◌, ◌≤◌, length, drop};
-ghost use Rattle.x64_decode.specs.Reading.{IsWithin, agrees, chosen, digit_of, merge, row_reading, rows_reading};
+ghost use Rattle.x64_decode.specs.Reading.{IsWithin, agrees, chosen, digit_of, first_byte, merge, others_agree, row_reading, rows_reading};
 ghost use Rattle.x64_decode.specs.Spelling.{allows, before_allows, code_bytes, digit_allows, memory_allows, modrm_allows, must_be_memory, takes_memory, takes_register};
 ghost use Rattle.x64_decode.specs.Table.{table};
 
@@ -51,23 +51,36 @@ impl Code {
         }
     }
 
-    /// Whether the bytes that are there agree with the code.
+    fn first_byte(self) -> u8
+        ensures { result ≡ first_byte self }
+    {
+        match self {
+            Code::One(first)
+            | Code::Two(first, _)
+            | Code::Three(first, _, _)
+            | Code::Four(first, _, _, _) => first,
+        }
+    }
+
+    fn others_agree(self, bytes: &[u8]) -> bool
+        ensures { result ≡ others_agree self bytes.now }
+    {
+        match self {
+            Code::One(_) => true,
+            Code::Two(_, b) => byte_or(bytes, 1, b) == b,
+            Code::Three(_, b, c) => byte_or(bytes, 1, b) == b && byte_or(bytes, 2, c) == c,
+            Code::Four(_, b, c, d) => {
+                byte_or(bytes, 1, b) == b && byte_or(bytes, 2, c) == c && byte_or(bytes, 3, d) == d
+            }
+        }
+    }
+
+    /// Whether the bytes that are there agree with the code. Most rows are passed over by the first.
     fn agrees(self, bytes: &[u8]) -> bool
         ensures { result ≡ agrees self bytes.now }
     {
-        match self {
-            Code::One(a) => byte_or(bytes, 0, a) == a,
-            Code::Two(a, b) => byte_or(bytes, 0, a) == a && byte_or(bytes, 1, b) == b,
-            Code::Three(a, b, c) => {
-                byte_or(bytes, 0, a) == a && byte_or(bytes, 1, b) == b && byte_or(bytes, 2, c) == c
-            }
-            Code::Four(a, b, c, d) => {
-                byte_or(bytes, 0, a) == a
-                    && byte_or(bytes, 1, b) == b
-                    && byte_or(bytes, 2, c) == c
-                    && byte_or(bytes, 3, d) == d
-            }
-        }
+        let first = self.first_byte();
+        byte_or(bytes, 0, first) == first && self.others_agree(bytes)
     }
 }
 
