@@ -1,0 +1,62 @@
+-- Message passing is forbidden where the two writes and the two reads keep their order.
+use Rattle.std.proofs.Common.{◌≡◌, ℕ, true, [], ◌∷◌, inl, inr, Option, None, refl, arith}
+use Rattle.ev_graph.specs.declared.execution.Source.TheVariants.{Start}
+use Rattle.ev_graph.specs.declared.events.FenceKind.{FenceKind}
+use Rattle.ev_graph.specs.Events.{event}
+use Rattle.ev_graph.specs.Pairs.{Po, Rf, Fr}
+use Rattle.order_models.specs.declared.edge.EdgeKind.TheVariants as edge
+use Rattle.order_models.specs.Orders.{Tso}
+use Rattle.order_models.specs.Consistent.{Consistent}
+use Rattle.litmus.specs.MessagePassing.{write_data, write_flag, read_flag, read_data, flag_entry, data_entry, message_passing}
+
+-- the write of the data stands before that of the flag
+writes_in_order : Po (event write_data) (event write_flag)
+writes_in_order = record { thread = refl; order = omega arith }
+
+-- the read of the flag stands before that of the data
+reads_in_order : Po (event read_flag) (event read_data)
+reads_in_order = record { thread = refl; order = omega arith }
+
+-- the read of the flag finds the write of the flag
+flag_found : (between_writes between_reads : Option FenceKind)
+    → Rf (message_passing between_writes between_reads).rf (event write_flag) (event read_flag)
+flag_found between_writes between_reads = record {
+  k = 0;
+  source = record { entry = flag_entry; listed = (0, refl); read = refl; byte = refl };
+}
+
+-- the read of the data finds the start, which the write of the data overwrites
+data_missed : (between_writes between_reads : Option FenceKind)
+    → Fr (message_passing between_writes between_reads).rf (message_passing between_writes between_reads).co
+    (event read_data) (event write_data)
+data_missed between_writes between_reads = record {
+  read = refl;
+  write = refl;
+  k = 0;
+  within = omega arith;
+  covers = (omega arith, omega arith);
+  source = Start;
+  from = record { entry = data_entry; listed = (1, refl); read = refl; byte = refl };
+  later = tt;
+}
+
+-- thread 0 is not thread 1
+zero_one : ◌≡◌ {A = ℕ} 0 1 → ⊥
+zero_one same = omega arith
+
+-- thread 1 is not thread 0
+one_zero : ◌≡◌ {A = ℕ} 1 0 → ⊥
+one_zero same = omega arith
+
+-- the cycle of four under x86-TSO: write of the data, write of the flag, read of the flag, read of the data
+pub tso_forbids : Consistent Tso true (message_passing None None) → ⊥
+tso_forbids consistent = consistent.external (event write_data) (event write_flag ∷ event read_flag ∷ event read_data ∷ []) (
+  record { first = refl; second = refl; pair = (edge.Ppo, record { po = writes_in_order; holds = inr refl }) },
+  (
+    record { first = refl; second = refl; pair = (edge.Rfe, (zero_one, flag_found None None)) },
+    (
+      record { first = refl; second = refl; pair = (edge.Ppo, record { po = reads_in_order; holds = inl refl }) },
+      record { first = refl; second = refl; pair = (edge.Fre, (one_zero, data_missed None None)) },
+    ),
+  ),
+)

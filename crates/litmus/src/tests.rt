@@ -1,0 +1,6 @@
+use crate::*;
+
+#[test]
+fn the_laws_are_proved() {
+    tso_forbids_message_passing();
+}
