@@ -1,13 +1,15 @@
 -- Message passing is forbidden where the two writes and the two reads keep their order.
-use Rattle.std.proofs.Common.{◌≡◌, ℕ, true, [], ◌∷◌, inl, inr, Option, None, refl, arith}
+use Rattle.std.proofs.Common.{◌≡◌, ℕ, true, false, [], ◌∷◌, inl, inr, Option, Some, None, refl, arith}
 use Rattle.ev_graph.specs.declared.execution.Source.TheVariants.{Start}
 use Rattle.ev_graph.specs.declared.events.FenceKind.{FenceKind}
-use Rattle.ev_graph.specs.Events.{event}
+use Rattle.ev_graph.specs.declared.events.FenceKind.TheVariants as fence
+use Rattle.ev_graph.specs.declared.events.Access.{Access}
+use Rattle.ev_graph.specs.Events.{event, FenceBetween}
 use Rattle.ev_graph.specs.Pairs.{Po, Rf, Fr}
 use Rattle.order_models.specs.declared.edge.EdgeKind.TheVariants as edge
-use Rattle.order_models.specs.Orders.{Tso}
+use Rattle.order_models.specs.Orders.{Tso, Arm}
 use Rattle.order_models.specs.Consistent.{Consistent}
-use Rattle.litmus.specs.MessagePassing.{write_data, write_flag, read_flag, read_data, flag_entry, data_entry, message_passing}
+use Rattle.litmus.specs.MessagePassing.{write_data, write_flag, read_flag, read_data, items_around, flag_entry, data_entry, message_passing}
 
 -- the write of the data stands before that of the flag
 writes_in_order : Po (event write_data) (event write_flag)
@@ -60,3 +62,32 @@ tso_forbids consistent = consistent.external (event write_data) (event write_fla
     ),
   ),
 )
+
+-- the fence of a thread stands between its two accesses
+fence_stands : (first second : Access) (kind : FenceKind) → FenceBetween kind (items_around first second (Some kind)) 0 1
+fence_stands first second kind = record {
+  place = 1;
+  fence = record { kind = kind; place = 2 };
+  here = refl;
+  same = refl;
+  behind = omega arith;
+  ahead = omega arith;
+}
+
+-- the same cycle on Armv8, where a DMB ISHST keeps the writes and a DMB ISHLD the reads in order
+pub arm_forbids : Consistent Arm false (message_passing (Some fence.DmbSt) (Some fence.DmbLd)) → ⊥
+arm_forbids consistent =
+    let store = Some fence.DmbSt in
+    let load = Some fence.DmbLd in
+    let writes = fence_stands write_data write_flag fence.DmbSt in
+    let reads = fence_stands read_flag read_data fence.DmbLd in
+    consistent.external (event write_data) (event write_flag ∷ event read_flag ∷ event read_data ∷ []) (
+      record { first = refl; second = refl; pair = (edge.St, record { po = writes_in_order; holds = (refl, refl, writes) }) },
+      (
+        record { first = refl; second = refl; pair = (edge.Rfe, (zero_one, flag_found store load)) },
+        (
+          record { first = refl; second = refl; pair = (edge.Ld, record { po = reads_in_order; holds = (refl, reads) }) },
+          record { first = refl; second = refl; pair = (edge.Fre, (one_zero, data_missed store load)) },
+        ),
+      ),
+    )

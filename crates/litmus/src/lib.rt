@@ -5,7 +5,7 @@
 
 mod message_passing;
 
-pub use message_passing::tso_forbids_message_passing;
+pub use message_passing::{arm_forbids_message_passing_with_fences, tso_forbids_message_passing};
 
 #[cfg(test)]
 mod tests;
