@@ -9,7 +9,8 @@ use Rattle.ev_graph.specs.Pairs.{Po, Rf, Fr}
 use Rattle.order_models.specs.declared.edge.EdgeKind.TheVariants as edge
 use Rattle.order_models.specs.Orders.{Tso, Arm}
 use Rattle.order_models.specs.Consistent.{Consistent}
-use Rattle.litmus.specs.MessagePassing.{write_data, write_flag, read_flag, read_data, items_around, flag_entry, data_entry, message_passing}
+use Rattle.litmus.specs.MessagePassing.{write_data, write_flag, read_flag, read_data, items_around, flag_entry}
+use Rattle.litmus.specs.MessagePassing.{data_entry, message_passing}
 
 -- the write of the data stands before that of the flag
 writes_in_order : Po (event write_data) (event write_flag)

@@ -10,6 +10,12 @@ pub fn tso_forbids_message_passing()
     ensures { Consistent tso_order true (message_passing None None) → ⊥ }
 {}
 
+/// Armv8 allows message passing where nothing keeps the writes or the reads in order
+/// (Arm ARM DDI 0487, chapter B2).
+pub fn arm_allows_message_passing()
+    ensures { Consistent arm_order false (message_passing None None) }
+{}
+
 /// On Armv8 a DMB ISHST between the writes and a DMB ISHLD between the reads forbid it
 /// (Arm ARM DDI 0487, chapter B2).
 pub fn arm_forbids_message_passing_with_fences()
