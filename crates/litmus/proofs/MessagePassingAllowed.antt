@@ -1,5 +1,5 @@
 -- Message passing is allowed on Armv8 where no fence keeps the accesses of a thread in order.
-use Rattle.std.proofs.Common.{◌≡◌, ◌<◌, ◌-◌, ◌⊎◌, ℕ, zero, suc, false, List, [], ◌∷◌, inl, inr, Option, Some, None}
+use Rattle.std.proofs.Common.{◌≡◌, ◌<◌, ◌-◌, ℕ, zero, suc, false, inl, inr, Some, None}
 use Rattle.std.proofs.Common.{refl, arith}
 use Rattle.std.specs.List.{slice_get}
 use Rattle.ev_graph.specs.declared.events.FenceItem.{FenceItem}

@@ -1,23 +1,17 @@
 -- Message passing without fences: which events it has, and that its pairs between threads lead from a second access to
 -- a first.
-use Rattle.std.proofs.Common.{◌≡◌, ◌<◌, ◌+◌, ◌⊎◌, ℕ, zero, suc, Bool, false, List, [], ◌∷◌, inl, inr, Option, Some}
-use Rattle.std.proofs.Common.{None, refl, sym, ◌∙◌, subst, ap, arith}
+use Rattle.std.proofs.Common.{◌≡◌, ◌<◌, ◌+◌, ◌⊎◌, ℕ, zero, suc, false, [], ◌∷◌, inl, inr, Some}
+use Rattle.std.proofs.Common.{None, refl, sym, subst, ap, arith}
 use Rattle.std.specs.List.{slice_get}
-use Rattle.ev_graph.specs.declared.events.Access.{Access}
-use Rattle.ev_graph.specs.declared.events.AccessKind.{AccessKind}
 use Rattle.ev_graph.specs.declared.events.AccessKind.TheVariants.{Read, Write}
 use Rattle.ev_graph.specs.declared.events.EventId.{EventId}
-use Rattle.ev_graph.specs.declared.events.FenceItem.{FenceItem}
-use Rattle.ev_graph.specs.declared.events.FenceKind.{FenceKind}
-use Rattle.ev_graph.specs.declared.events.Item.TheVariants as item
 use Rattle.ev_graph.specs.declared.execution.Execution.{Execution}
 use Rattle.ev_graph.specs.declared.execution.ReadFrom.{ReadFrom}
 use Rattle.ev_graph.specs.declared.execution.Source.{Source}
 use Rattle.ev_graph.specs.declared.execution.Source.TheVariants.{Start, From}
-use Rattle.ev_graph.specs.Events.{Event, event, events, accesses, items_of, IsIn, IsRead, IsWrite, IsLocked}
-use Rattle.ev_graph.specs.Pairs.{Po, PoLoc, Rf, Co, Fr, SourceOf, Overwrites}
+use Rattle.ev_graph.specs.Events.{Event, event, events, items_of, IsIn}
+use Rattle.ev_graph.specs.Pairs.{PoLoc, Rf, Co, Fr, SourceOf, Overwrites}
 use Rattle.ev_graph.specs.Places.{StandsIn, Earlier}
-use Rattle.ev_graph.proofs.EventLemmas.{access_of, from_number}
 use Rattle.litmus.specs.MessagePassing.{write_data, write_flag, read_flag, read_data, flag_entry}
 use Rattle.litmus.specs.MessagePassing.{data_entry, message_passing}
 
