@@ -1,0 +1,3 @@
+pub mod MessagePassingAllowed
+pub mod MessagePassingEvents
+pub mod MessagePassingForbidden

@@ -1,0 +1,14 @@
+//! Worked litmus shapes: what the memory orders say of small executions that the literature names.
+//! Each law is the contract of a function without a body. Store buffering stands in `order_models`.
+//! Sources: Sewell et al., CACM 2010 (x86-TSO); Arm ARM DDI 0487, chapter B2 (Armv8).
+#![tactic(auto)]
+
+mod message_passing;
+
+pub use message_passing::{
+    arm_allows_message_passing, arm_forbids_message_passing_with_fences,
+    tso_forbids_message_passing,
+};
+
+#[cfg(test)]
+mod tests;

@@ -1,0 +1,8 @@
+use crate::*;
+
+#[test]
+fn the_laws_are_proved() {
+    tso_forbids_message_passing();
+    arm_allows_message_passing();
+    arm_forbids_message_passing_with_fences();
+}
