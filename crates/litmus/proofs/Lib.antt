@@ -1,3 +1,4 @@
 pub mod MessagePassingAllowed
 pub mod MessagePassingEvents
 pub mod MessagePassingForbidden
+pub mod MessagePassingForm

@@ -7,7 +7,7 @@ mod message_passing;
 
 pub use message_passing::{
     arm_allows_message_passing, arm_forbids_message_passing_with_fences,
-    tso_forbids_message_passing,
+    message_passing_is_well_formed, tso_forbids_message_passing,
 };
 
 #[cfg(test)]
