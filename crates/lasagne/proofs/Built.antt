@@ -4,7 +4,7 @@ use Rattle.lasagne.specs.declared.elf_parts.Symbol.{Symbol}
 use Rattle.lasagne.specs.Bytes.{number_at, range_at, padded}
 use Rattle.std.proofs.Common.{lit<, lit≤}
 use Rattle.lasagne.specs.ElfParts.{file_header, program_header, symbol_table, string_table}
-use Rattle.lasagne.specs.ElfFile.{segments_of, segments_from, symbol_section_from, symbol_value, value_from, address_of}
+use Rattle.lasagne.specs.ElfFile.{segment_at, segments_of, segments_from, symbol_section_from, symbol_value, value_from, address_of}
 use Rattle.lasagne.specs.ImageFile.{header_of}
 use Rattle.lasagne.specs.BuiltFile.{cells_at, code_segment, cells_segment, built_header, code_header, cells_header, built_headers, built_sections, built_file}
 use Rattle.lasagne.proofs.Reading.{length-padded, number_there}
@@ -100,6 +100,22 @@ cells_held code cells address symbols =
     let front = padded (padded (built_headers (length code) (length cells) address) 4096 ++ code) (cells_at (length code)) in
     range_between (built_file code cells address symbols) front cells (cells_at (length code)) (begins_cells front cells _ _ _ _) (sym (length-to_cells code cells address))
 
+-- the first segment that a built file says
+pub first_of_built : (code cells : List ℕ) (address : ℕ) (symbols : List Symbol) → IsBuildable code cells address symbols
+    → segment_at (built_file code cells address symbols) 64 ≡ code_segment code
+first_of_built code cells address symbols ready =
+    let bytes = built_file code cells address symbols in
+    let h = file_header (built_header (length code)) in
+    let first = program_header (header_of 4096 (code_segment code)) in
+    let second = program_header (header_of (cells_at (length code)) (cells_segment cells address)) in
+    let b = begins_headers (built_headers (length code) (length cells) address) code cells (symbol_table symbols ++ string_table symbols)
+    (built_sections (cells_at (length code) + 4096) (length (symbol_table symbols)) (length (string_table symbols)))
+    4096 (cells_at (length code)) (cells_at (length code) + 4096) (cells_at (length code) + 0x2000) in
+    let whole : bytes ≡ h ++ (first ++ (second ++ b.rest)) =
+    b.whole ∙ append_assoc h (first ++ second) b.rest ∙ ap (λ l. h ++ l) (append_assoc first second b.rest) in
+    segment_read bytes h (second ++ b.rest) 64 4096 (code_segment code) whole refl
+    (record { address = lit< tt; size = omega (arith, ready.code_size); flags = lit< tt; bytes = omega (arith, ready.code_size) }) (lit< tt) (code_held code cells address symbols)
+
 -- the segments that a built file says
 pub segments_of_built : (code cells : List ℕ) (address : ℕ) (symbols : List Symbol) → IsBuildable code cells address symbols
     → segments_of (built_file code cells address symbols) ≡ code_segment code ∷ cells_segment cells address ∷ []
@@ -118,8 +134,7 @@ segments_of_built code cells address symbols ready =
     let count : number_at bytes 56 2 ≡ 2 = ap (λ l. number_at l 56 2) whole in
     let kind : number_at bytes 64 4 ≡ 1 = number_there bytes h (first ++ (second ++ b.rest)) 64 0 4 whole refl in
     let kind' : number_at bytes 120 4 ≡ 1 = number_there bytes (h ++ first) (second ++ b.rest) 120 0 4 again refl in
-    let one = segment_read bytes h (second ++ b.rest) 64 4096 (code_segment code) whole refl
-    (record { address = lit< tt; size = omega (arith, ready.code_size); flags = lit< tt; bytes = omega (arith, ready.code_size) }) (lit< tt) (code_held code cells address symbols) in
+    let one = first_of_built code cells address symbols ready in
     let two = segment_read bytes (h ++ first) b.rest 120 (cells_at (length code)) (cells_segment cells address) again refl
     (record { address = ready.address_fits; size = omega (arith, ready.cells_size); flags = lit< tt; bytes = omega (arith, ready.cells_size) })
     (omega (arith, cells_at_short (length code) ready.code_size)) (cells_held code cells address symbols) in

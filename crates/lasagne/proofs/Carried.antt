@@ -1,5 +1,5 @@
 -- The image of a narrow file carries it.
-use Rattle.std.proofs.Common.{◌≡◌, ℕ, ◌+◌, ◌^◌, ◌<◌, ◌≤◌, Bool, true, false, List, [], ◌∷◌, ◌++◌, length, arith, sym, ◌∙◌, ap, refl, subst, lit<, lit≤, length-append, eqb-true}
+use Rattle.std.proofs.Common.{◌≡◌, ℕ, ◌+◌, ◌*◌, ◌^◌, ◌<◌, ◌≤◌, Bool, true, false, List, [], ◌∷◌, ◌++◌, length, arith, sym, ◌∙◌, ap, refl, subst, lit<, lit≤, length-append, eqb-true}
 use Rattle.std.specs.Prelude.{◌==◌, bit_and, flat_map, if◌then◌else◌, replicate}
 use Rattle.std.proofs.lemmas.Bool.Decides.{nat_tests}
 use Rattle.std.specs.List.{AllByRecursion}
@@ -15,17 +15,23 @@ use Rattle.lasagne.specs.ImageFile.{image_file, code_part, offset_after, places_
 use Rattle.lasagne.specs.Accepted.{HasNoFault}
 use Rattle.order_models.specs.Orders.{Arm}
 use Rattle.order_models.specs.Consistent.{Consistent}
-use Rattle.x64_table.specs.declared.narrow.Narrow.TheVariants.{Ret}
+use Rattle.behavior.specs.Kept.{Backward, Forward}
+use Rattle.x64_table.specs.declared.narrow.PlacedNarrow.{PlacedNarrow}
+use Rattle.straight_line.specs.Line.{IsLineOf, placed_in}
+use Rattle.straight_line.specs.Carried.{CarriesLine}
+use Rattle.straight_line.proofs.LineRead.{line_short}
+use Rattle.straight_line.proofs.LineUnfolds.{line_stands}
 use Rattle.lasagne.specs.declared.plan.Summary.{Summary}
 use Rattle.lasagne.specs.Carries.{Carries, CarriesInArm, IsOneThreadImage, kept, IsCodeAddress}
 use Rattle.lasagne.specs.Counting.{nothing}
 use Rattle.lasagne.specs.Plan.{summary_of}
-use Rattle.lasagne.specs.Lines.{Placed, AreLines, HasSummary, block_of, blocks_of, distinct}
-use Rattle.lasagne.specs.Return.{return_words}
+use Rattle.lasagne.specs.Lines.{IsLine, AreLines, HasSummary, block_of, blocks_of, distinct}
 use Rattle.lasagne.proofs.Tables.{length-code, length-thread_names}
 use Rattle.lasagne.proofs.ReadImage.{segments_of_image}
 use Rattle.lasagne.proofs.ReadSymbols.{IsReadable, threads_of_image, length-symbol_entries}
-use Rattle.lasagne.proofs.Narrow.{segments_of_narrow, threads_of_narrow}
+use Rattle.lasagne.proofs.Narrow.{some_code, segments_of_narrow, threads_of_narrow}
+use Rattle.lasagne.proofs.Lined.{line_stands_in}
+use Rattle.lasagne.proofs.Simulated.{each_thread}
 
 -- a part of size 0 has no byte in common with a stack
 off_empty : (part : Part) (stacks : List Stack) → part.size ≡ 0 → IsOffStacks stacks part
@@ -122,59 +128,71 @@ narrow_readable code cells words address few_code few_cells few_words low =
       short = sections_short (o3 + length bytes) _ _ (omega (arith, h1, h2, h3, few_code, few_cells, long, few_words)) (table_short address) (names_short address);
     }
 
--- an image file with what is kept of a narrow file, and code behind it, carries it
-pub narrow_carries : (private : Slot → Bool) (order : Execution → Type 0) (bound : ℕ) (input image words : List ℕ) (address : ℕ) (fault : HasNoFault input)
-    → IsCodeAddress (kept (code_segment fault.code ∷ cells_segment fault.cells 0x404000 ∷ [])) address → address < 2 ^ 64 → length words ≤ 2 ^ 32
+-- an image file with what is kept of a narrow file, and words behind it that carry its line, carries the file
+pub narrow_carries : (private : Slot → Bool) (order : Execution → Type 0) (input image words : List ℕ) (address : ℕ) (fault : HasNoFault input)
+    → IsCodeAddress (kept (code_segment fault.code ∷ cells_segment fault.cells 0x404000 ∷ [])) address → address < 2 ^ 47
+    → AllByRecursion (λ word. word < 2 ^ 32) words → length words ≤ 2 ^ 32
     → image ≡ image_file (kept (code_segment fault.code ∷ cells_segment fault.cells 0x404000 ∷ []) ++ code_part address words ∷ []) (address ∷ [])
-    → Carries private order bound input image
-narrow_carries private order bound input image words address fault behind low few file =
+    → CarriesLine 0x401000 fault.line address words
+    → Carries private order 256 input image
+narrow_carries private order input image words address fault behind low fit few file carried =
     let code = fault.code in
     let cells = fault.cells in
-    let one : length code ≡ 1 = ap length fault.built in
     let size = fault.cell_count in
+    let some : 0 < length code = some_code 0x401000 code fault.line fault.is_line in
     let segments : segments_of input ≡ code_segment code ∷ cells_segment cells 0x404000 ∷ [] =
-    ap segments_of fault.file ∙ segments_of_narrow code cells (omega (arith, one)) (omega (arith, size)) in
-    let threads : threads_of input ≡ 0x401000 ∷ [] = ap threads_of fault.file ∙ threads_of_narrow code cells (omega (arith, one)) (omega (arith, size)) in
+    ap segments_of fault.file ∙ segments_of_narrow code cells fault.code_count (omega (arith, size)) in
+    let threads : threads_of input ≡ 0x401000 ∷ [] = ap threads_of fault.file ∙ threads_of_narrow code cells fault.code_count (omega (arith, size)) in
     let keeps : kept (code_segment code ∷ cells_segment cells 0x404000 ∷ []) ++ code_part address words ∷ [] ≡ narrow_parts code cells address words =
-    kept_narrow code cells words address (omega (arith, one)) (omega (arith, size)) in
+    kept_narrow code cells words address some (omega (arith, size)) in
     let whole : image ≡ image_file (narrow_parts code cells address words) (address ∷ []) = file ∙ ap (λ parts. image_file parts (address ∷ [])) keeps in
-    let ready = narrow_readable code cells words address (omega (arith, one)) (omega (arith, size)) few low in
+    let ready = narrow_readable code cells words address fault.code_count (omega (arith, size)) few (omega (arith, low)) in
     let said : segments_of image ≡ narrow_parts code cells address words =
     ap segments_of whole ∙ segments_of_image (narrow_parts code cells address words) (address ∷ []) ready.few_parts ready.fields in
     let begun : threads_of image ≡ address ∷ [] = ap threads_of whole ∙ threads_of_image (narrow_parts code cells address words) (address ∷ []) ready in
     let from_input : kept (segments_of input) ++ code_part address words ∷ [] ≡ narrow_parts code cells address words =
     ap (λ parts. kept parts ++ code_part address words ∷ []) segments ∙ keeps in
     let counted : length (threads_of image) ≡ length (threads_of input) = ap length begun ∙ sym (ap length threads) in
+    let parts : segments_of image ≡ kept (segments_of input) ++ code_part address words ∷ [] = said ∙ sym from_input in
+    let here : IsLine (segments_of input) 0x401000 fault.line =
+    subst (λ ps. IsLine ps 0x401000 fault.line) (sym segments) (line_stands_in fault.line code cells fault.is_line) in
+    let stand = line_stands 0x401000 fault.line fault.is_line.0.stands in
     record {
       no_fault = fault;
       code_address = address;
       words = words;
-      behind = subst (λ parts. IsCodeAddress (kept parts) address) (sym segments) behind;
-      segments = said ∙ sym from_input;
+      fit = fit;
+      behind = subst (λ ps. IsCodeAddress (kept ps) address) (sym segments) behind;
+      segments = parts;
       threads = counted;
-      bytes = whole ∙ ap (λ parts. image_file parts (address ∷ [])) (sym said) ∙ ap (λ ts. image_file (segments_of image) ts) (sym begun);
+      bytes = whole ∙ ap (λ ps. image_file ps (address ∷ [])) (sym said) ∙ ap (λ ts. image_file (segments_of image) ts) (sym begun);
       layouts = λ stacks fits. fits_kept (segments_of input) (code_part address words ∷ []) (length (threads_of image)) (length (threads_of input)) stacks counted
-          (subst (λ parts. Fits parts (length (threads_of image)) stacks) (said ∙ sym from_input) fits);
+          (subst (λ ps. Fits ps (length (threads_of image)) stacks) parts fits);
+      backward = each_thread Backward input image address words 0x401000 fault.line threads begun parts here
+          (λ may s t starts. carried.backward may (placed_in fault.line) stand s t starts);
+      forward = each_thread (Forward 256) input image address words 0x401000 fault.line threads begun parts here
+          (λ may s t starts. carried.forward may (placed_in fault.line) stand s t starts);
     }
 
 -- what is made of a file that has no fault carries it
-pub image_carries : (input cells image : List ℕ) → length cells ≡ 64 → input ≡ narrow_file (0xC3 ∷ []) cells
-    → IsOneThreadImage (code_segment (0xC3 ∷ []) ∷ cells_segment cells 0x404000 ∷ []) return_words image → CarriesInArm input image
-image_carries input cells image size file made =
-    narrow_carries nothing (Consistent Arm false) 256 input image return_words made.address
-    (record { code = 0xC3 ∷ []; cells = cells; built = refl; cell_count = size; file = file }) made.behind made.fits (lit≤ tt) made.file
+pub image_carries : (input code cells words image : List ℕ) (line : List PlacedNarrow) → IsLineOf 0x401000 code line → length code ≤ 4096 → length cells ≡ 64 → input ≡ narrow_file code cells
+    → length words ≤ 64 * length line + 64 → ((at : ℕ) → at + 4 * length words < 2 ^ 63 → CarriesLine 0x401000 line at words)
+    → IsOneThreadImage (code_segment code ∷ cells_segment cells 0x404000 ∷ []) words image → CarriesInArm input image
+image_carries input code cells words image line is few size file words_few carried made =
+    let short : length line ≤ length code = line_short line 0x401000 code is.0.stands is.1 in
+    let ends : made.address + 4 * length words < 2 ^ 63 = omega (arith, made.low, few, short, words_few) in
+    narrow_carries nothing (Consistent Arm false) input image words made.address
+    (record { code = code; cells = cells; line = line; is_line = is; code_count = few; cell_count = size; file = file }) made.behind made.low made.fit (omega (arith, few, short, words_few)) made.file
+    (carried made.address ends)
 
--- and its summary is that of one return
-pub return_summarized : (input cells : List ℕ) (summary : Summary) → length cells ≡ 64 → input ≡ narrow_file (0xC3 ∷ []) cells
-    → summary ≡ summary_of nothing 1 (block_of 0x401000 (record { address = 0x401000; instr = Ret; size = 1 } ∷ []) ∷ [])
-    → HasSummary nothing input summary
-return_summarized input cells summary size file counted =
-    let line : List Placed = record { address = 0x401000; instr = Ret; size = 1 } ∷ [] in
-    let segments : segments_of input ≡ code_segment (0xC3 ∷ []) ∷ cells_segment cells 0x404000 ∷ [] =
-    ap segments_of file ∙ segments_of_narrow (0xC3 ∷ []) cells (lit≤ tt) (omega (arith, size)) in
-    let threads : threads_of input ≡ 0x401000 ∷ [] = ap threads_of file ∙ threads_of_narrow (0xC3 ∷ []) cells (lit≤ tt) (omega (arith, size)) in
-    let here : AreLines (code_segment (0xC3 ∷ []) ∷ cells_segment cells 0x404000 ∷ []) (0x401000 ∷ []) (line ∷ []) =
-    ((record { here = refl; spelled = record { spelling = 0xC3 ∷ []; rest = []; spelled = refl; parts = refl; long = refl } }, refl), tt) in
+-- and its summary is that of its line
+pub line_summarized : (input code cells : List ℕ) (line : List PlacedNarrow) (summary : Summary) → IsLineOf 0x401000 code line → length code ≤ 4096 → length cells ≡ 64 → input ≡ narrow_file code cells
+    → summary ≡ summary_of nothing 1 (block_of 0x401000 line ∷ []) → HasSummary nothing input summary
+line_summarized input code cells line summary is few size file counted =
+    let segments : segments_of input ≡ code_segment code ∷ cells_segment cells 0x404000 ∷ [] =
+    ap segments_of file ∙ segments_of_narrow code cells few (omega (arith, size)) in
+    let threads : threads_of input ≡ 0x401000 ∷ [] = ap threads_of file ∙ threads_of_narrow code cells few (omega (arith, size)) in
+    let here : AreLines (code_segment code ∷ cells_segment cells 0x404000 ∷ []) (0x401000 ∷ []) (line ∷ []) = (line_stands_in line code cells is, tt) in
     record {
       lines = line ∷ [];
       stand = subst (λ (ts : List ℕ). AreLines (segments_of input) (distinct ts) (line ∷ [])) (sym threads)

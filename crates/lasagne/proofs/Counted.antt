@@ -1,7 +1,16 @@
 -- What is counted of one block is the summary of a program that has one.
-use Rattle.std.proofs.Common.{◌≡◌, ℕ, List, [], ◌∷◌, length, arith, sym, ◌∙◌, ap, refl}
+use Rattle.std.proofs.Common.{◌≡◌, ℕ, ◌≤◌, List, [], ◌∷◌, length, arith, sym, ◌∙◌, ap, refl, subst}
+use Rattle.std.specs.List.{flat_map}
+use Rattle.std.proofs.lemmas.List.{length-map}
 use Rattle.std.specs.Prelude.{count_by, sum_by, None, false}
 use Rattle.x64_syntax.specs.declared.slots.Slot.{Slot}
+use Rattle.x64_table.specs.declared.narrow.Narrow.{Narrow}
+use Rattle.x64_table.specs.declared.narrow.Narrow.TheVariants as instrs
+use Rattle.x64_table.specs.declared.narrow.PlacedNarrow.{PlacedNarrow}
+use Rattle.x64_table.specs.Slots.{slots}
+use Rattle.straight_line.proofs.Sizes.{few_each}
+use Rattle.lasagne.specs.declared.plan.Mark.TheVariants.{Access}
+use Rattle.lasagne.specs.Lines.{marks_of}
 use Rattle.lasagne.specs.declared.plan.Block.{Block}
 use Rattle.lasagne.specs.declared.plan.Gap.{Gap}
 use Rattle.lasagne.specs.declared.plan.Counts.{Counts}
@@ -34,3 +43,18 @@ summary_of_one threads block counts e =
     (ap (λ (c : Counts). c.frm) e ∙ sum_of_one (λ b. count_by (λ (g : Gap). g.frm) (gaps nothing b)) block)
     (ap (λ (c : Counts). c.fww) e ∙ sum_of_one (λ b. count_by (λ (g : Gap). g.fww) (gaps nothing b)) block)
     (ap (λ (c : Counts). c.fsc) e ∙ sum_of_one (λ b. count_by (λ (g : Gap). g.fsc) (gaps nothing b)) block)
+
+-- an instruction makes one access at most
+slots_few : (instr : Narrow) → length (slots instr) ≤ 1
+slots_few (instrs.Move to from) = omega arith
+slots_few (instrs.Load to base) = omega arith
+slots_few (instrs.Store base from) = omega arith
+slots_few (instrs.Move32 to n) = omega arith
+slots_few (instrs.Move64 to n) = omega arith
+slots_few instrs.Ret = omega arith
+
+-- so a line has no more marks than instructions
+pub marks_few : (line : List PlacedNarrow) → length (flat_map marks_of line) ≤ length line
+marks_few line =
+    let few = few_each marks_of 1 (λ p. subst (λ n. n ≤ 1) (sym (length-map (slots p.instr) (λ kind. Access (record { address = p.address; kind = kind })))) (slots_few p.instr)) line in
+    omega (arith, few)

@@ -8,7 +8,7 @@ use Rattle.lasagne.specs.Accepted.{HasNoFault}
 use Rattle.lasagne.specs.Carries.{CarriesInArm}
 use Rattle.lasagne.specs.Texts.{unbuilt_line}
 use Rattle.lasagne.specs.Command.{World, Ends, Answers, HasFault, IsSaid, OfImage, SameFiles}
-use Rattle.lasagne.proofs.Narrow.{narrow_short}
+use Rattle.lasagne.proofs.Narrow.{length-narrow}
 
 -- a count that rose later rose
 pub rose_later : (a b c : ℕ) → a ≤ b → Rose b c → Rose a c
@@ -19,7 +19,7 @@ pub longer_has_fault : (files : Option Files) (name : List ℕ) (limit before no
     → IfSome files (λ f. IsLonger f name limit × (Rose before now → ⊥)) → IfSome files (λ f. (bytes : List ℕ) × (f name ≡ Some bytes) × (HasNoFault bytes → ⊥))
 longer_has_fault None name limit before now e longer = longer
 longer_has_fault (Some f) name limit before now e longer =
-    (longer.0.bytes, longer.0.here, (λ fault. omega (arith, e, longer.0.longer, narrow_short longer.0.bytes fault)))
+    (longer.0.bytes, longer.0.here, (λ fault. omega (arith, e, longer.0.longer, length-narrow longer.0.bytes fault)))
 
 -- so has one that was not translated
 pub unbuilt_has_fault : (files : Option Files) (name items bytes : List ℕ) → bytes ≡ items → (HasNoFault bytes → ⊥)

@@ -8,6 +8,9 @@ pub mod Built
 pub mod Stored
 pub mod Counted
 pub mod Narrow
+pub mod Lined
+pub mod Permitted
+pub mod Simulated
 pub mod Ends
 pub mod Carried
 pub mod Endings

@@ -1,5 +1,5 @@
 -- Steps of the loops that write symbols and program headers.
-use Rattle.std.proofs.Common.{◌≡◌, ℕ, ◌+◌, ◌<◌, List, [], ◌∷◌, ◌++◌, length, map, get_or, drop, arith, sym, ◌∙◌, append_assoc, length-append, drop-cons, add-one, ap, refl}
+use Rattle.std.proofs.Common.{◌≡◌, ℕ, suc, ◌+◌, ◌<◌, List, [], ◌∷◌, ◌++◌, length, map, get_or, drop, arith, sym, ◌∙◌, append_assoc, length-append, drop-cons, add-one, ap, refl}
 use Rattle.std.specs.Prelude.{◌*◌, ◌^◌, ◌≤◌, flat_map, decimal, slice_index}
 use Rattle.std.proofs.Common.{lit<}
 use Rattle.std.specs.List.{AllByRecursion}
@@ -139,3 +139,8 @@ pub length-short_names : (symbols : List Symbol) → AllByRecursion IsShort symb
 length-short_names [] short = omega arith
 length-short_names (symbol ∷ symbols) short =
     let rest = length-short_names symbols short.1 in simp length-append (omega (arith, short.0, rest))
+
+-- each word of a list of words has 32 bits
+pub words_fit : (words : List ℕ) → ((i : ℕ) → get_or words i 0 < 2 ^ 32) → AllByRecursion (λ word. word < 2 ^ 32) words
+words_fit [] h = tt
+words_fit (word ∷ words) h = (h 0, words_fit words (λ i. h (suc i)))

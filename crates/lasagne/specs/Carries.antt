@@ -10,7 +10,9 @@ use Rattle.order_models.specs.Consistent.{Consistent}
 use Rattle.lasagne.specs.Counting.{nothing}
 use Rattle.lasagne.specs.ElfFile.{segments_of, threads_of}
 use Rattle.lasagne.specs.ImageFile.{image_file, code_part}
+use Rattle.behavior.specs.Kept.{Backward, Forward}
 use Rattle.lasagne.specs.Accepted.{HasNoFault}
+use Rattle.lasagne.specs.Threads.{OfEachThread}
 
 -- The segments that an image keeps: those of nonzero size, in order, with their bytes, and with the flags R and W alone.
 abbrev pub kept : List Part → List Part
@@ -40,6 +42,7 @@ pub record Carries (private : Slot → Bool) (order : Execution → Type 0) (bou
   -- the image's segments are the input's, and behind them, at an address that is said, is code that can only be executed
   pub code_address : ℕ
   pub words : List ℕ
+  pub fit : AllByRecursion (λ word. word < 2 ^ 32) words
   pub behind : IsCodeAddress (kept (segments_of input)) code_address
   pub segments : segments_of image ≡ kept (segments_of input) ++ code_part code_address words ∷ []
   -- it has as many threads
@@ -48,12 +51,18 @@ pub record Carries (private : Slot → Bool) (order : Execution → Type 0) (bou
   pub bytes : image ≡ image_file (segments_of image) (threads_of image)
   -- a layout of stacks that fits the image fits the input
   pub layouts : (stacks : List Stack) → Fits (segments_of image) (length (threads_of image)) stacks → Fits (segments_of input) (length (threads_of input)) stacks
+  -- each run of a thread of the image has the trace and the end of one of the input's, at every cut
+  pub backward : OfEachThread input image code_address words Backward
+  -- each run of a thread of the input that has begun n instructions has the trace and the end of one of the image's that has
+  -- begun at most bound * n
+  pub forward : OfEachThread input image code_address words (Forward bound)
 
 -- These are the bytes of an image with the kept parts of an input, these words behind them, and one thread that begins there.
 pub record IsOneThreadImage (parts : List Part) (words bytes : List ℕ) : Type 0 where
   pub address : ℕ
   pub behind : IsCodeAddress (kept parts) address
-  pub fits : address < 2 ^ 64
+  pub low : address < 2 ^ 47
+  pub fit : AllByRecursion (λ word. word < 2 ^ 32) words
   pub file : bytes ≡ image_file (kept parts ++ code_part address words ∷ []) (address ∷ [])
 
 -- The image carries the input, in the Armv8 order, with a bound of 256, where no slot is private.

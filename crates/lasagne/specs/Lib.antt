@@ -9,10 +9,10 @@ pub mod Accepted
 pub mod Carries
 pub mod Plan
 pub mod Lines
+pub mod Threads
 pub mod Ports
 pub mod Memories
 pub mod Calls
 pub mod Counting
-pub mod Return
 pub mod Texts
 pub mod Command

@@ -3,10 +3,11 @@
 use Rattle.std.specs.Prelude.{◌≡◌, ◌≢◌, ℕ, ◌+◌, ◌-◌, Bool, false, ◌&&◌, ◌||◌, ◌==◌, nat_le, nat_lt, List, [], ◌∷◌, length, drop, map, flat_map, if◌then◌else◌}
 use Rattle.ev_graph.specs.Memory.{Part, has_flag}
 use Rattle.x64_syntax.specs.declared.slots.Slot.{Slot}
-use Rattle.x64_table.specs.declared.narrow.Narrow.{Narrow}
+use Rattle.x64_table.specs.declared.narrow.PlacedNarrow.{PlacedNarrow}
 use Rattle.x64_table.specs.declared.narrow.Narrow.TheVariants.{Ret}
 use Rattle.x64_table.specs.Spelling.{Begins}
 use Rattle.x64_table.specs.Slots.{slots}
+use Rattle.lasagne.specs.declared.plan.Mark.{Mark}
 use Rattle.lasagne.specs.declared.plan.Mark.TheVariants.{Access}
 use Rattle.lasagne.specs.declared.plan.Block.{Block}
 use Rattle.lasagne.specs.declared.plan.Summary.{Summary}
@@ -22,22 +23,16 @@ code_from (part ∷ parts) address =
     then drop (address - part.address) (padded part.bytes part.size)
     else code_from parts address
 
--- an instruction, where it stands and how many bytes it has
-pub record Placed : Type 0 where
-  pub address : ℕ
-  pub instr : Narrow
-  pub size : ℕ
-
 -- this is the instruction whose spelling stands at the address
-pub record StandsAt (parts : List Part) (address : ℕ) (placed : Placed) : Type 0 where
+pub record StandsAt (parts : List Part) (address : ℕ) (placed : PlacedNarrow) : Type 0 where
   pub here : placed.address ≡ address
-  pub spelled : Begins (code_from parts address) placed.instr placed.size
+  pub spelled : Begins (code_from parts address) placed.instr placed.length
 
 -- the instructions from an address on, each where the one before ends, of which the last, and no other, is a return
-abbrev pub IsLine : List Part → ℕ → List Placed → Type 0
+abbrev pub IsLine : List Part → ℕ → List PlacedNarrow → Type 0
 IsLine parts address [] = ⊥
 IsLine parts address (placed ∷ []) = StandsAt parts address placed × (placed.instr ≡ Ret)
-IsLine parts address (placed ∷ next ∷ line) = StandsAt parts address placed × (placed.instr ≢ Ret) × IsLine parts (address + placed.size) (next ∷ line)
+IsLine parts address (placed ∷ next ∷ line) = StandsAt parts address placed × (placed.instr ≢ Ret) × IsLine parts (address + placed.length) (next ∷ line)
 
 -- whether a number is in a list
 abbrev pub is_among : ℕ → List ℕ → Bool
@@ -50,27 +45,31 @@ distinct [] = []
 distinct (n ∷ ns) = if is_among n ns then distinct ns else n ∷ distinct ns
 
 -- one line from each of these addresses
-abbrev pub AreLines : List Part → List ℕ → List (List Placed) → Type 0
+abbrev pub AreLines : List Part → List ℕ → List (List PlacedNarrow) → Type 0
 AreLines parts [] [] = Unit {0}
 AreLines parts [] (line ∷ lines) = ⊥
 AreLines parts (address ∷ addresses) [] = ⊥
 AreLines parts (address ∷ addresses) (line ∷ lines) = IsLine parts address line × AreLines parts addresses lines
 
+-- the marks of an instruction: its slots
+abbrev pub marks_of : PlacedNarrow → List Mark
+marks_of placed = map (λ kind. Access (record { address = placed.address; kind = kind })) (slots placed.instr)
+
 -- a line as one block
-abbrev pub block_of : ℕ → List Placed → Block
+abbrev pub block_of : ℕ → List PlacedNarrow → Block
 block_of first line = record {
   first = first;
   instructions = length line;
-  marks = flat_map (λ placed. map (λ kind. Access (record { address = placed.address; kind = kind })) (slots placed.instr)) line;
+  marks = flat_map marks_of line;
 }
 
-abbrev pub blocks_of : List ℕ → List (List Placed) → List Block
+abbrev pub blocks_of : List ℕ → List (List PlacedNarrow) → List Block
 blocks_of [] lines = []
 blocks_of (address ∷ addresses) [] = []
 blocks_of (address ∷ addresses) (line ∷ lines) = block_of address line ∷ blocks_of addresses lines
 
 -- the summary of a file: one block for each address at which a thread begins
 pub record HasSummary (private : Slot → Bool) (bytes : List ℕ) (summary : Summary) : Type 0 where
-  pub lines : List (List Placed)
+  pub lines : List (List PlacedNarrow)
   pub stand : AreLines (segments_of bytes) (distinct (threads_of bytes)) lines
   pub counted : summary ≡ summary_of private (length (threads_of bytes)) (blocks_of (distinct (threads_of bytes)) lines)

@@ -7,6 +7,7 @@ mod built_file;
 mod command;
 mod elf_parts;
 mod image;
+mod narrow_file;
 mod plan;
 pub mod ports;
 mod symbols;

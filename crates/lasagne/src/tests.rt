@@ -85,6 +85,20 @@ fn least_file(alloc: Global) -> Result<Vec<u8>, Fail> {
     Ok(bytes)
 }
 
+/// The same file with another code, of at most 4,096 bytes.
+fn file_with(alloc: Global, code: &[u8]) -> Result<Vec<u8>, Fail> {
+    let mut bytes = least_file(alloc)?;
+    let size = u16::try_from(code.len()).unwrap_or(0).to_le_bytes();
+    for (offset, part) in [(96, size.as_slice()), (104, &size), (0x1000, code)] {
+        for (place, byte) in part.iter().enumerate() {
+            if let Some(cell) = bytes.get_mut(place.saturating_add(offset)) {
+                *cell = *byte;
+            }
+        }
+    }
+    Ok(bytes)
+}
+
 /// A shelf that holds these bytes under the name `a`.
 fn shelf_with(alloc: Global, bytes: Vec<u8>, failing: Vec<u64>) -> Result<MemShelf, Fail> {
     let mut files = Vec::new(alloc);
@@ -128,6 +142,61 @@ fn least_file_is_translated(rt: HostRuntime) -> Result<(), Fail> {
             .and_then(|tail| tail.get(..wanted.len()))
             .ok_or("short")?;
         assert_eq!(rt; found, wanted, "at {place}");
+    }
+    Ok(())
+}
+
+#[test]
+fn straight_lines_are_translated(rt: HostRuntime) -> Result<(), Fail> {
+    let alloc = rt.alloc();
+    // mov edi, 0x404000; mov rax, [rdi]; mov [rdi], rax; ret
+    let copy = b"\xBF\0\x40\x40\0\x48\x8B\x07\x48\x89\x07\xC3";
+    let mut shelf = shelf_with(alloc, file_with(alloc, copy)?, calls(alloc, &[])?)?;
+    let mut out = MemSink::new(alloc, calls(alloc, &[])?);
+    let status = run_words(alloc, &["translate", "a", "b"], &mut shelf, &mut out)?;
+    assert_eq!(rt; status, Status::Done);
+    assert_eq!(rt;
+        out.taken(),
+        b"translated 1 threads, 4 instructions, 1 blocks, 3 accesses, 0 private, 2 frm, 1 fww, 0 fsc\n".as_slice()
+    );
+    Ok(())
+}
+
+#[test]
+fn longest_code_is_translated(rt: HostRuntime) -> Result<(), Fail> {
+    let alloc = rt.alloc();
+    let mut code = Vec::new(alloc);
+    for _ in 0..1365 {
+        code.extend_from_slice(b"\x48\x8B\x07")?;
+    }
+    code.push(0xC3)?;
+    let mut shelf = shelf_with(alloc, file_with(alloc, &code)?, calls(alloc, &[])?)?;
+    let mut out = MemSink::new(alloc, calls(alloc, &[])?);
+    let status = run_words(alloc, &["translate", "a", "b"], &mut shelf, &mut out)?;
+    assert_eq!(rt; status, Status::Done);
+    assert_eq!(rt;
+        out.taken(),
+        b"translated 1 threads, 1366 instructions, 1 blocks, 1366 accesses, 0 private, 1366 frm, 0 fww, 0 fsc\n".as_slice()
+    );
+    Ok(())
+}
+
+#[test]
+fn other_codes_are_refused(rt: HostRuntime) -> Result<(), Fail> {
+    let alloc = rt.alloc();
+    let codes: [&[u8]; 5] = [
+        b"",
+        b"\x90\xC3",
+        b"\x48\x89\xD1",
+        b"\xC3\xC3",
+        b"\xBF\0\x40\x40\xC3",
+    ];
+    for code in codes {
+        let mut shelf = shelf_with(alloc, file_with(alloc, code)?, calls(alloc, &[])?)?;
+        let mut out = MemSink::new(alloc, calls(alloc, &[])?);
+        let status = run_words(alloc, &["translate", "a", "b"], &mut shelf, &mut out)?;
+        assert_eq!(rt; status, Status::Refused);
+        assert_eq!(rt; out.taken(), b"refused Unbuilt\n".as_slice());
     }
     Ok(())
 }

@@ -8,3 +8,4 @@ pub mod LineCarried
 pub mod LineRead
 pub mod GuardedRuns
 pub mod LineTranslated
+pub mod Sizes

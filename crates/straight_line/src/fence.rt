@@ -1,4 +1,4 @@
-ghost use Rattle.std.specs.Prelude.{◌≡◌, ◌++◌, IfOk, OnOk};
+ghost use Rattle.std.specs.Prelude.{◌≡◌, ◌≤◌, ◌++◌, ◌*◌, IfOk, OnOk, length};
 ghost use Rattle.std.specs.List.{flat_map, AllByRecursion};
 ghost use Rattle.straight_line.specs.Passes.{fenced, IsFenced, KeepsPlaced};
 ghost use Rattle.straight_line.specs.Steps.{IsStep};
@@ -12,6 +12,7 @@ pub fn place_fences(alloc: Global, steps: &[Step]) -> Result<Vec<Step>, NoMemory
     ensures fences { IfOk result (λ with. IsFenced steps.now with.items) }
     ensures meaning { IfOk result (λ with. KeepsPlaced steps.now with.items) }
     ensures well { AllByRecursion IsStep steps.now → IfOk result (λ with. AllByRecursion IsStep with.items) }
+    ensures size { IfOk result (λ with. length with.items ≤ 2 * length steps.now) }
 {
     fence_each(alloc, steps)
 }

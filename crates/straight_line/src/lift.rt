@@ -1,4 +1,4 @@
-ghost use Rattle.std.specs.Prelude.{◌≡◌, ◌++◌, ℕ, IfOk, OnOk};
+ghost use Rattle.std.specs.Prelude.{◌≡◌, ◌≤◌, ◌++◌, ◌*◌, ℕ, IfOk, OnOk, length};
 ghost use Rattle.std.specs.List.{flat_map, AllByRecursion};
 ghost use Rattle.straight_line.specs.Line.{IsStraight};
 ghost use Rattle.straight_line.specs.Passes.{lifted, LiftsLine};
@@ -15,6 +15,7 @@ use x64_table::narrow::{Narrow, PlacedNarrow};
 pub fn lift_line(alloc: Global, line: &[PlacedNarrow]) -> Result<Vec<Step>, NoMemory>
     ensures meaning { (first : ℕ) → IsStraight first line.now → IfOk result (λ steps. LiftsLine first line.now steps.items) }
     ensures well { (first : ℕ) → IsStraight first line.now → IfOk result (λ steps. AllByRecursion IsStep steps.items) }
+    ensures size { IfOk result (λ steps. length steps.items ≤ 2 * length line.now) }
 {
     lift_each(alloc, line)
 }

@@ -1,4 +1,4 @@
-ghost use Rattle.std.specs.Prelude.{◌≡◌, ◌++◌, ◌<◌, IfOk, OnOk};
+ghost use Rattle.std.specs.Prelude.{◌≡◌, ◌≤◌, ◌++◌, ◌*◌, ◌<◌, IfOk, OnOk, length};
 ghost use Rattle.std.specs.List.{flat_map, AllByRecursion};
 ghost use Rattle.a64_table.specs.Words.{InRange};
 ghost use Rattle.a64_table.specs.Rows.{IsForward};
@@ -16,6 +16,7 @@ pub fn select_words(alloc: Global, steps: &[Step]) -> Result<Vec<A64<XReg>>, NoM
     ensures meaning { IfOk result (λ words. SelectsWords steps.now words.items) }
     ensures range { IfOk result (λ words. AllByRecursion InRange words.items) }
     ensures forward { IfOk result (λ words. AllByRecursion IsForward words.items) }
+    ensures size { IfOk result (λ words. length words.items ≤ 4 * length steps.now) }
 {
     select_each(alloc, steps)
 }

@@ -1,41 +1,25 @@
-ghost use Rattle.std.specs.Prelude.{◌+◌, ◌*◌, ◌^◌, ◌<◌, ℕ, IfOk, IfSome, IfNone, List, length};
-ghost use Rattle.x64_table.specs.declared.narrow.PlacedNarrow.{PlacedNarrow};
-ghost use Rattle.straight_line.specs.Line.{IsStraight, IsLineOf};
+ghost use Rattle.std.specs.Prelude.{◌+◌, ◌*◌, ◌^◌, ◌<◌, ◌≤◌, ℕ, IfOk, length};
+ghost use Rattle.straight_line.specs.Line.{IsStraight};
 ghost use Rattle.straight_line.specs.Carried.{CarriesLine};
 
 use crate::fence::place_fences;
 use crate::layout::lay_out;
 use crate::lift::lift_line;
-use crate::line::read_line;
 use crate::select::select_words;
 use ev_graph::NoMemory;
 use std::alloc::Global;
 use x64_table::narrow::PlacedNarrow;
 
-/// The words that carry the straight line that the code spells from `first` on, from any address;
-/// `None` where the code spells no straight line.
-pub fn translate_code(alloc: Global, first: u64, code: &[u8]) -> Result<Option<Vec<u32>>, NoMemory>
-    requires { first + length code.now < 2 ^ 64 }
-    ensures line { IfOk result (λ found. IfSome found (λ words. (line : List PlacedNarrow)
-        × IsLineOf first code.now line
-        × ((at : ℕ) → at + 4 * length words.items < 2 ^ 63 → CarriesLine first line at words.items))) }
-    ensures none { IfOk result (λ found. IfNone found ((line : List PlacedNarrow) → IsLineOf first code.now line → ⊥)) }
-{
-    match read_line(alloc, first, code)? {
-        Some(line) => Ok(Some(translate_line(alloc, first, &line)?)),
-        None => Ok(None),
-    }
-}
-
 /// The words that carry a straight line, whose first instruction stands at `first`, from any
-/// address.
+/// address: at most 64 for each instruction, and 64 more.
 pub fn translate_line(
     alloc: Global,
     first: u64,
     line: &[PlacedNarrow],
 ) -> Result<Vec<u32>, NoMemory>
     requires { IsStraight first line.now }
-    ensures { IfOk result (λ words. (at : ℕ) → at + 4 * length words.items < 2 ^ 63 → CarriesLine first line.now at words.items) }
+    ensures carries { IfOk result (λ words. (at : ℕ) → at + 4 * length words.items < 2 ^ 63 → CarriesLine first line.now at words.items) }
+    ensures size { IfOk result (λ words. length words.items ≤ 64 * length line.now + 64) }
 {
     let steps = lift_line(alloc, line)?;
     let with_fences = place_fences(alloc, &steps)?;
@@ -46,6 +30,7 @@ pub fn translate_line(
 #[cfg(test)]
 mod tests {
     use super::*;
+    use crate::line::read_line;
     use std::test::Fail;
 
     const FIRST: u64 = 0x40_1000;
@@ -61,7 +46,8 @@ mod tests {
             0x48, 0xB8, 0x88, 0x77, 0x00, 0x00, 0x44, 0x33, 0x22, 0x11, // mov rax, imm64
             0xC3, // ret
         ];
-        let words = translate_code(rt.alloc(), FIRST, &code)?.ok_or("no line")?;
+        let line = read_line(rt.alloc(), FIRST, &code)?.ok_or("no line")?;
+        let words = translate_line(rt.alloc(), FIRST, &line)?;
         let wanted: [u32; 16] = [
             0xD288_0007, // movz x7, #0x4000
             0xF2A0_0807, // movk x7, #0x40, lsl #16
@@ -86,10 +72,10 @@ mod tests {
 
     #[test]
     fn refuses_other_code(rt: HostRuntime) -> Result<(), Fail> {
-        assert!(rt; translate_code(rt.alloc(), FIRST, &[])?.is_none());
-        assert!(rt; translate_code(rt.alloc(), FIRST, &[0x48, 0x89, 0xD1])?.is_none());
-        assert!(rt; translate_code(rt.alloc(), FIRST, &[0xC3, 0xC3])?.is_none());
-        assert!(rt; translate_code(rt.alloc(), FIRST, &[0x90, 0xC3])?.is_none());
+        assert!(rt; read_line(rt.alloc(), FIRST, &[])?.is_none());
+        assert!(rt; read_line(rt.alloc(), FIRST, &[0x48, 0x89, 0xD1])?.is_none());
+        assert!(rt; read_line(rt.alloc(), FIRST, &[0xC3, 0xC3])?.is_none());
+        assert!(rt; read_line(rt.alloc(), FIRST, &[0x90, 0xC3])?.is_none());
         Ok(())
     }
 }

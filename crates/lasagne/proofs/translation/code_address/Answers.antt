@@ -3,5 +3,5 @@ use Rattle.lasagne.specs.Image.{segment_part}
 use Rattle.lasagne.proofs.Ends.{rounded_is}
 use Rattle.lasagne.proofs.translation.code_address.Goals as goal
 
-pub returns : goal.returns
-returns c = rounded_is (map segment_part c.args.segments.now) c.highest_end.result c.highest_end.ensures.value
+pub returns-clause-place : goal.returns-clause-place
+returns-clause-place c = rounded_is (map segment_part c.args.segments.now) c.highest_end.result c.highest_end.ensures.value

@@ -1,9 +1,9 @@
-use Rattle.std.proofs.Common.{◌∙◌, ap, subst, List, ℕ, [], ◌∷◌, ◌++◌}
+use Rattle.std.proofs.Common.{arith, ◌∙◌, ap, subst, List, ℕ, [], ◌∷◌, ◌++◌}
 use Rattle.ev_graph.specs.Memory.{Part}
 use Rattle.lasagne.specs.BuiltFile.{code_segment, cells_segment}
 use Rattle.lasagne.specs.ImageFile.{code_part, image_file}
 use Rattle.lasagne.specs.Carries.{IsCodeAddress, kept}
-use Rattle.lasagne.specs.Return.{return_words}
+use Rattle.lasagne.proofs.Tables.{words_fit}
 use Rattle.lasagne.proofs.translation.narrow_image_file.Goals as goal
 
 pub returns : goal.returns
@@ -13,9 +13,10 @@ returns c =
     record {
       address = image.code_address;
       behind = subst (λ (ps : List Part). IsCodeAddress ps image.code_address) c.in_ok-image.ensures.segments c.in_ok-image.ensures.behind;
-      fits = c.in_ok-image.ensures.fits;
+      low = c.in_ok-image.ensures.low;
+      fit = words_fit c.args.words.now (λ i. omega (arith, c.type_inv.words i));
       file = c.of.ensures ∙ c.in_ok-file.ensures
           ∙ ap (λ (ps : List Part). image_file (ps ++ code_part image.code_address image.words ∷ []) image.threads) c.in_ok-image.ensures.segments
           ∙ ap (λ (words : List ℕ). image_file (parts ++ code_part image.code_address words ∷ []) image.threads) c.in_ok-image.ensures.words
-          ∙ ap (λ (threads : List ℕ). image_file (parts ++ code_part image.code_address return_words ∷ []) threads) c.in_ok-image.ensures.threads;
+          ∙ ap (λ (threads : List ℕ). image_file (parts ++ code_part image.code_address c.args.words.now ∷ []) threads) c.in_ok-image.ensures.threads;
     }

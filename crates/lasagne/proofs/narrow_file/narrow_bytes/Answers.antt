@@ -1,7 +1,7 @@
 use Rattle.std.proofs.Common.{◌∙◌, ap, List}
 use Rattle.lasagne.specs.declared.elf_parts.Symbol.{Symbol}
 use Rattle.lasagne.specs.BuiltFile.{built_file}
-use Rattle.lasagne.proofs.translation.narrow_bytes.Goals as goal
+use Rattle.lasagne.proofs.narrow_file.narrow_bytes.Goals as goal
 
 pub returns : goal.returns
 returns c =
