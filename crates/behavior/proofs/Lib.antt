@@ -8,3 +8,5 @@ pub mod Blocks
 pub mod Explanations
 pub mod ActsLemmas
 pub mod Unfolding
+pub mod Makes
+pub mod NumberedLemmas

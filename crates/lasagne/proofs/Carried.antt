@@ -1,20 +1,16 @@
 -- The image of a narrow file carries it.
-use Rattle.std.proofs.Common.{◌≡◌, ℕ, ◌+◌, ◌*◌, ◌^◌, ◌<◌, ◌≤◌, Bool, true, false, List, [], ◌∷◌, ◌++◌, length, arith, sym, ◌∙◌, ap, refl, subst, lit<, lit≤, length-append, eqb-true}
+use Rattle.std.proofs.Common.{◌≡◌, ℕ, ◌+◌, ◌*◌, ◌^◌, ◌<◌, ◌≤◌, Bool, true, false, List, [], ◌∷◌, ◌++◌, length, slice_get, Some, arith, sym, ◌∙◌, ap, refl, subst, lit<, lit≤, length-append, eqb-true}
 use Rattle.std.specs.Prelude.{◌==◌, bit_and, flat_map, if◌then◌else◌, replicate}
 use Rattle.std.proofs.lemmas.Bool.Decides.{nat_tests}
 use Rattle.std.specs.List.{AllByRecursion}
-use Rattle.ev_graph.specs.declared.execution.Execution.{Execution}
 use Rattle.ev_graph.specs.declared.execution.Stack.{Stack}
 use Rattle.ev_graph.specs.Memory.{Part, Fits, IsOffStacks}
-use Rattle.x64_syntax.specs.declared.slots.Slot.{Slot}
 use Rattle.byteorder.specs.Endian.{little_bytes}
 use Rattle.lasagne.specs.BuiltFile.{narrow_file, code_segment, cells_segment}
 use Rattle.lasagne.specs.ElfFile.{segments_of, threads_of}
 use Rattle.lasagne.specs.ElfParts.{symbol_table, string_table, symbol_entries}
 use Rattle.lasagne.specs.ImageFile.{image_file, code_part, offset_after, places_from, thread_symbols}
 use Rattle.lasagne.specs.Accepted.{HasNoFault}
-use Rattle.order_models.specs.Orders.{Arm}
-use Rattle.order_models.specs.Consistent.{Consistent}
 use Rattle.behavior.specs.Kept.{Backward, Forward}
 use Rattle.x64_table.specs.declared.narrow.PlacedNarrow.{PlacedNarrow}
 use Rattle.straight_line.specs.Line.{IsLineOf, placed_in}
@@ -22,7 +18,7 @@ use Rattle.straight_line.specs.Carried.{CarriesLine}
 use Rattle.straight_line.proofs.LineRead.{line_short}
 use Rattle.straight_line.proofs.LineUnfolds.{line_stands}
 use Rattle.lasagne.specs.declared.plan.Summary.{Summary}
-use Rattle.lasagne.specs.Carries.{Carries, CarriesInArm, IsOneThreadImage, kept, IsCodeAddress}
+use Rattle.lasagne.specs.Carries.{CarriesInArm, IsOneThreadImage, kept, IsCodeAddress}
 use Rattle.lasagne.specs.Counting.{nothing}
 use Rattle.lasagne.specs.Plan.{summary_of}
 use Rattle.lasagne.specs.Lines.{IsLine, AreLines, HasSummary, block_of, blocks_of, distinct}
@@ -31,7 +27,8 @@ use Rattle.lasagne.proofs.ReadImage.{segments_of_image}
 use Rattle.lasagne.proofs.ReadSymbols.{IsReadable, threads_of_image, length-symbol_entries}
 use Rattle.lasagne.proofs.Narrow.{some_code, segments_of_narrow, threads_of_narrow}
 use Rattle.lasagne.proofs.Lined.{line_stands_in}
-use Rattle.lasagne.proofs.Simulated.{each_thread}
+use Rattle.lasagne.proofs.Simulated.{only_one, each_thread}
+use Rattle.lasagne.proofs.Accounted.{IsGuarded, Facts, accounts, explanation}
 
 -- a part of size 0 has no byte in common with a stack
 off_empty : (part : Part) (stacks : List Stack) → part.size ≡ 0 → IsOffStacks stacks part
@@ -129,13 +126,13 @@ narrow_readable code cells words address few_code few_cells few_words low =
     }
 
 -- an image file with what is kept of a narrow file, and words behind it that carry its line, carries the file
-pub narrow_carries : (private : Slot → Bool) (order : Execution → Type 0) (input image words : List ℕ) (address : ℕ) (fault : HasNoFault input)
+pub narrow_carries : (input image words : List ℕ) (address : ℕ) (fault : HasNoFault input)
     → IsCodeAddress (kept (code_segment fault.code ∷ cells_segment fault.cells 0x404000 ∷ [])) address → address < 2 ^ 47
     → AllByRecursion (λ word. word < 2 ^ 32) words → length words ≤ 2 ^ 32
     → image ≡ image_file (kept (code_segment fault.code ∷ cells_segment fault.cells 0x404000 ∷ []) ++ code_part address words ∷ []) (address ∷ [])
     → CarriesLine 0x401000 fault.line address words
-    → Carries private order 256 input image
-narrow_carries private order input image words address fault behind low fit few file carried =
+    → CarriesInArm input image
+narrow_carries input image words address fault behind low fit few file carried =
     let code = fault.code in
     let cells = fault.cells in
     let size = fault.cell_count in
@@ -157,6 +154,20 @@ narrow_carries private order input image words address fault behind low fit few 
     let here : IsLine (segments_of input) 0x401000 fault.line =
     subst (λ ps. IsLine ps 0x401000 fault.line) (sym segments) (line_stands_in fault.line code cells fault.is_line) in
     let stand = line_stands 0x401000 fault.line fault.is_line.0.stands in
+    let layouts : (stacks : List Stack) → Fits (segments_of image) (length (threads_of image)) stacks → Fits (segments_of input) (length (threads_of input)) stacks =
+    λ stacks fits. fits_kept (segments_of input) (code_part address words ∷ []) (length (threads_of image)) (length (threads_of input)) stacks counted
+    (subst (λ ps. Fits ps (length (threads_of image)) stacks) parts fits) in
+    let backward = each_thread Backward input image address words 0x401000 fault.line threads begun parts here
+    (λ may s t starts. carried.backward may (placed_in fault.line) stand s t starts) in
+    let facts : Facts input image address words = record {
+      parts = parts;
+      count = counted;
+      layouts = layouts;
+      lines = λ k at begins. (fault.line, subst (λ n. IsLine (segments_of input) n fault.line) (sym (only_one 0x401000 k at (subst (λ l. slice_get l k ≡ Some at) threads begins)).1) here);
+      backward = backward;
+      guarded = each_thread IsGuarded input image address words 0x401000 fault.line threads begun parts here
+          (λ may s t starts. carried.guarded may t starts.target_at starts.fit);
+    } in
     record {
       no_fault = fault;
       code_address = address;
@@ -166,12 +177,12 @@ narrow_carries private order input image words address fault behind low fit few 
       segments = parts;
       threads = counted;
       bytes = whole ∙ ap (λ ps. image_file ps (address ∷ [])) (sym said) ∙ ap (λ ts. image_file (segments_of image) ts) (sym begun);
-      layouts = λ stacks fits. fits_kept (segments_of input) (code_part address words ∷ []) (length (threads_of image)) (length (threads_of input)) stacks counted
-          (subst (λ ps. Fits ps (length (threads_of image)) stacks) parts fits);
-      backward = each_thread Backward input image address words 0x401000 fault.line threads begun parts here
-          (λ may s t starts. carried.backward may (placed_in fault.line) stand s t starts);
+      layouts = layouts;
+      backward = backward;
       forward = each_thread (Forward 256) input image address words 0x401000 fault.line threads begun parts here
           (λ may s t starts. carried.forward may (placed_in fault.line) stand s t starts);
+      explanations = explanation input image address words facts;
+      explained = λ x y is form consistent explains tame. accounts input image address words facts x y is explains form consistent;
     }
 
 -- what is made of a file that has no fault carries it
@@ -181,7 +192,7 @@ pub image_carries : (input code cells words image : List ℕ) (line : List Place
 image_carries input code cells words image line is few size file words_few carried made =
     let short : length line ≤ length code = line_short line 0x401000 code is.0.stands is.1 in
     let ends : made.address + 4 * length words < 2 ^ 63 = omega (arith, made.low, few, short, words_few) in
-    narrow_carries nothing (Consistent Arm false) input image words made.address
+    narrow_carries input image words made.address
     (record { code = code; cells = cells; line = line; is_line = is; code_count = few; cell_count = size; file = file }) made.behind made.low made.fit (omega (arith, few, short, words_few)) made.file
     (carried made.address ends)
 

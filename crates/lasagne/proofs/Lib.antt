@@ -11,6 +11,10 @@ pub mod Narrow
 pub mod Lined
 pub mod Permitted
 pub mod Simulated
+pub mod Barriers
+pub mod SameThreads
+pub mod StartBytes
+pub mod Accounted
 pub mod Ends
 pub mod Carried
 pub mod Endings

@@ -48,9 +48,9 @@ line_from : (line : List PlacedNarrow) (code cells front rest : List ℕ) → co
     → IsLine (code_segment code ∷ cells_segment cells 0x404000 ∷ []) (0x401000 + length front) line
 line_from [] code cells front rest parts stands returns spelled = returns
 line_from (p ∷ []) code cells front rest parts stands returns (s, r, spelled, long, whole, more) = (
-    stands_there p code cells front s r stands.0 (record { spelling = s; rest = r; spelled = spelled; parts = refl; long = long }) (omega (arith, long, stands.1)) (parts ∙ ap (λ l. front ++ l) whole),
-    returns,
-  )
+  stands_there p code cells front s r stands.0 (record { spelling = s; rest = r; spelled = spelled; parts = refl; long = long }) (omega (arith, long, stands.1)) (parts ∙ ap (λ l. front ++ l) whole),
+  returns,
+)
 line_from (p ∷ q ∷ line) code cells front rest parts stands returns (s, r, spelled, long, whole, more) =
     let next : 0x401000 + length (front ++ s) ≡ 0x401000 + length front + p.length = omega (arith, long, length-append front s) in
     let later = line_from (q ∷ line) code cells (front ++ s) r (parts ∙ ap (λ l. front ++ l) whole ∙ sym (append_assoc front s r))

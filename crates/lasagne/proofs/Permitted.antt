@@ -20,7 +20,7 @@ in_range part n = nat_le part.address n && nat_lt n (part.address + part.size)
 outside : (low high n : ℕ) → (nat_le low n && nat_lt n high) ≡ false → (nat_le low n ≡ true) → (nat_lt n high ≡ true) → ⊥
 outside low high n none first second = grind (arith, nat_tests)
 
-in_bounds : (low high n : ℕ) → (nat_le low n && nat_lt n high) ≡ true → (low ≤ n) × (n < high)
+pub in_bounds : (low high n : ℕ) → (nat_le low n && nat_lt n high) ≡ true → (low ≤ n) × (n < high)
 in_bounds low high n both = (grind (arith, nat_tests), grind (arith, nat_tests))
 
 off_bounds : (low high n : ℕ) → ((low ≤ n) → (n < high) → ⊥) → (nat_le low n && nat_lt n high) ≡ false
@@ -45,6 +45,7 @@ kept_flags write part n = by_range write (nat_le part.address n && nat_lt n (par
   where
     cell : ℕ → Cell
     cell flags = record { byte = slice_index part.bytes (n - part.address); readable = has_flag flags 4; writable = has_flag flags 2 }
+
     by_range : (write b : Bool) → permits write (if b then Some (cell (bit_and part.flags 6)) else None) ≡ permits write (if b then Some (cell part.flags) else None)
     by_range write false = refl
     by_range false true = ap (λ k. k == 1) (kept_bit part.flags 2 refl)
@@ -70,6 +71,7 @@ there_or_not part other n address size none =
   where
     some_none : {c : Cell} → Some c ≡ None → ⊥
     some_none e = absurd cc
+
     by_range : (b : Bool) → (nat_le part.address n && nat_lt n (part.address + part.size)) ≡ b → cell_in part n ≡ None → cell_in other n ≡ None
     by_range false e none =
         ap (λ a. if nat_le a n && nat_lt n (a + other.size) then Some (record { byte = slice_index other.bytes (n - other.address); readable = has_flag other.flags 4; writable = has_flag other.flags 2 }) else None) address
@@ -79,13 +81,13 @@ there_or_not part other n address size none =
         absurd (some_none (sym (ap (λ b. if b then Some (record { byte = slice_index part.bytes (n - part.address); readable = has_flag part.flags 4; writable = has_flag part.flags 2 }) else None) e) ∙ none))
 
 -- a part of size 0 has no cell
-empty_none : (part : Part) (n : ℕ) → part.size ≡ 0 → cell_in part n ≡ None
+pub empty_none : (part : Part) (n : ℕ) → part.size ≡ 0 → cell_in part n ≡ None
 empty_none part n none =
     ap (λ b. if b then Some (record { byte = slice_index part.bytes (n - part.address); readable = has_flag part.flags 4; writable = has_flag part.flags 2 }) else None)
     (off_bounds part.address (part.address + part.size) n (λ low high. absurd (omega (arith, none, low, high))))
 
 -- an address off the stacks has no cell there
-off_none : (stacks : List Stack) (part : Part) (n : ℕ) → part.address ≤ n → n < part.address + part.size → IsOffStacks stacks part → cells_of (map stack_part stacks) n ≡ None
+pub off_none : (stacks : List Stack) (part : Part) (n : ℕ) → part.address ≤ n → n < part.address + part.size → IsOffStacks stacks part → cells_of (map stack_part stacks) n ≡ None
 off_none [] part n low high off = refl
 off_none (stack ∷ stacks) part n low high off =
     ap (λ b. or_else (if b then Some (record { byte = slice_index [] (n - stack.lo); readable = true; writable = true }) else None) (cells_of (map stack_part stacks) n))
@@ -99,8 +101,10 @@ code_permits write address n words stacks off = by_range write (nat_le address n
   where
     others : Option Cell
     others = cells_of (map stack_part stacks) n
+
     choice : Bool → Option Cell
     choice b = or_else (if b then Some (record { byte = slice_index (code_part address words).bytes (n - address); readable = false; writable = false }) else None) others
+
     by_range : (write b : Bool) → (nat_le address n && nat_lt n (address + 4 * length words)) ≡ b → permits write (choice (nat_le address n && nat_lt n (address + 4 * length words))) ≡ permits write others
     by_range write false e = ap (λ b. permits write (choice b)) e
     by_range false true e =
@@ -134,7 +138,7 @@ allows_same c d same write address zero = refl
 allows_same c d same write address (suc size) =
     ap (λ b. b && allows c write (address + 1) size) (same write address) ∙ ap (λ b. permits write (d address) && b) (allows_same c d same write (address + 1) size)
 
-last_part : (P : Part → Type 0) (parts : List Part) (part : Part) → AllByRecursion P (parts ++ part ∷ []) → P part
+pub last_part : (P : Part → Type 0) (parts : List Part) (part : Part) → AllByRecursion P (parts ++ part ∷ []) → P part
 last_part P [] part all = all.0
 last_part P (other ∷ parts) part all = last_part P parts part all.1
 

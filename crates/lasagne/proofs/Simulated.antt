@@ -19,7 +19,7 @@ use Rattle.lasagne.proofs.Lined.{same_line}
 use Rattle.lasagne.proofs.Permitted.{same_allowed}
 
 -- a list of one has one element
-only_one : (a k b : ℕ) → slice_get (a ∷ []) k ≡ Some b → (k ≡ 0) × (b ≡ a)
+pub only_one : (a k b : ℕ) → slice_get (a ∷ []) k ≡ Some b → (k ≡ 0) × (b ≡ a)
 only_one a zero b e = (refl, same b a e)
   where
     same : (b a : ℕ) → Some a ≡ Some b → b ≡ a

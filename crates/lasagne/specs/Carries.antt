@@ -3,7 +3,8 @@ use Rattle.std.specs.Prelude.{◌≡◌, ◌≤◌, ◌<◌, ◌^◌, ℕ, ◌+�
 use Rattle.std.specs.List.{AllByRecursion}
 use Rattle.ev_graph.specs.declared.execution.Execution.{Execution}
 use Rattle.ev_graph.specs.declared.execution.Stack.{Stack}
-use Rattle.ev_graph.specs.Memory.{Part, Fits}
+use Rattle.ev_graph.specs.Memory.{Part, cells_of, Fits}
+use Rattle.ev_graph.specs.WellFormed.{WellFormed}
 use Rattle.x64_syntax.specs.declared.slots.Slot.{Slot}
 use Rattle.order_models.specs.Orders.{Arm}
 use Rattle.order_models.specs.Consistent.{Consistent}
@@ -13,6 +14,8 @@ use Rattle.lasagne.specs.ImageFile.{image_file, code_part}
 use Rattle.behavior.specs.Kept.{Backward, Forward}
 use Rattle.lasagne.specs.Accepted.{HasNoFault}
 use Rattle.lasagne.specs.Threads.{OfEachThread}
+use Rattle.lasagne.specs.Executions.{IsImageExecution}
+use Rattle.lasagne.specs.Explained.{IsExplanation, IsTame, Accounts}
 
 -- The segments that an image keeps: those of nonzero size, in order, with their bytes, and with the flags R and W alone.
 abbrev pub kept : List Part → List Part
@@ -56,6 +59,11 @@ pub record Carries (private : Slot → Bool) (order : Execution → Type 0) (bou
   -- each run of a thread of the input that has begun n instructions has the trace and the end of one of the image's that has
   -- begun at most bound * n
   pub forward : OfEachThread input image code_address words (Forward bound)
+  -- each execution of the image has an explanation
+  pub explanations : (x : Execution) → IsImageExecution image code_address words x → (y : Execution) × IsExplanation input x y
+  -- and that of a well-formed and tame one that the order allows accounts for it
+  pub explained : (x y : Execution) → IsImageExecution image code_address words x → WellFormed (cells_of (segments_of image)) x → order x
+      → IsExplanation input x y → IsTame private y → Accounts input image x y
 
 -- These are the bytes of an image with the kept parts of an input, these words behind them, and one thread that begins there.
 pub record IsOneThreadImage (parts : List Part) (words bytes : List ℕ) : Type 0 where

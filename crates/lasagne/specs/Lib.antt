@@ -10,6 +10,8 @@ pub mod Carries
 pub mod Plan
 pub mod Lines
 pub mod Threads
+pub mod Executions
+pub mod Explained
 pub mod Ports
 pub mod Memories
 pub mod Calls

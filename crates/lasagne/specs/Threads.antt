@@ -49,4 +49,4 @@ OfEachThread input image code_address words Claim =
     → slice_get (threads_of input) k ≡ Some from → slice_get (threads_of image) k ≡ Some to → slice_get stacks k ≡ Some stack
     → IsLine (segments_of input) from line
     → Claim (x64_thread (segments_of input) stacks line) (x64_start k stack from)
-            (a64_thread (segments_of image) stacks code_address words) (a64_start k stack to)
+    (a64_thread (segments_of image) stacks code_address words) (a64_start k stack to)

@@ -100,12 +100,7 @@ fn is_same(a: &[u8], b: &[u8]) -> bool
 }
 
 /// Tells whether these are the bytes of the narrow file with this code and these cells.
-pub fn check_bytes(
-    alloc: Global,
-    bytes: &[u8],
-    code: &[u8],
-    cells: &[u8],
-) -> Result<(), TransFault>
+pub fn check_bytes(alloc: Global, bytes: &[u8], code: &[u8], cells: &[u8]) -> Result<(), TransFault>
     requires code { length code.now ≤ 4096 }
     requires cells { length cells.now ≤ 4096 }
     ensures same { OnOk result (bytes.now ≡ narrow_file code.now cells.now) }

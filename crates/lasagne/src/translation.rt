@@ -106,12 +106,7 @@ fn kept_segments(alloc: Global, code: &[u8], cells: &[u8]) -> Result<Vec<ImageSe
 }
 
 /// The image of the narrow file with this code and these cells, whose thread has these words.
-fn narrow_image(
-    alloc: Global,
-    code: &[u8],
-    cells: &[u8],
-    words: &[u32],
-) -> Result<Image, NoMemory>
+fn narrow_image(alloc: Global, code: &[u8], cells: &[u8], words: &[u32]) -> Result<Image, NoMemory>
     requires some_code { 0 < length code.now }
     requires few_code { length code.now ≤ 4096 }
     requires some_cells { 0 < length cells.now }

@@ -2,6 +2,8 @@
 use Rattle.std.proofs.Common.{◌≡◌, ℕ, ◌+◌, ◌^◌, ◌%◌, ◌==◌, Bool, true, false, List, [], ◌∷◌, Option, Some, None, refl}
 use Rattle.std.specs.Prelude.{if◌then◌else◌}
 use Rattle.ev_graph.specs.declared.events.Item.{Item}
+use Rattle.ev_graph.specs.declared.events.Item.TheVariants as items
+use Rattle.ev_graph.specs.WellFormed.{is_write}
 use Rattle.ev_graph.specs.declared.events.AccessKind.TheVariants as kinds
 use Rattle.ev_graph.specs.declared.events.TrapKind.TheVariants.{BadAccess, BadReturn}
 use Rattle.ev_graph.specs.declared.events.End.TheVariants.{Halted}
@@ -9,6 +11,7 @@ use Rattle.behavior.specs.Tree.{Tree, Gives, Acts, At, Path, gives, acts, Next, 
 use Rattle.behavior.specs.Acts.{put, Permission, goes, traps, access, makes}
 use Rattle.behavior.specs.Explained.{IsOpen}
 use Rattle.behavior.proofs.ActsLemmas.{open_then, open_reads, open_writes}
+use Rattle.behavior.proofs.Makes.{AllMakes, makes_then, makes_choice, makes_reads, makes_writes}
 use Rattle.behavior.proofs.Unfolding.{AllResults, results_choice}
 use Rattle.x64_table.specs.declared.narrow.Narrow.{Narrow}
 use Rattle.x64_table.specs.declared.narrow.Narrow.TheVariants.{Move, Load, Store, Move32, Move64, Ret}
@@ -81,3 +84,32 @@ row_behind may (Move32 to n) length s = refl
 row_behind may (Move64 to n) length s = refl
 row_behind may Ret length s =
     results_choice (IsBehind ((s.at + length) % 2 ^ 64)) (may false (s.regs 4) 8) (Acts (256 ^ 8) (λ v. access kinds.Read false s.at (s.regs 4) 8 v ∷ []) (λ v. goes (Return (after length (put 4 ((s.regs 4 + 8) % 2 ^ 64) s.regs) s) v))) (traps BadAccess) (λ v lt. tt) tt
+
+-- an item is an unlocked access that is allowed
+abbrev pub IsPlain : Permission → Item → Type 0
+IsPlain may (items.Access a) = (a.locked ≡ false) × (may (is_write a.kind) a.address a.size ≡ true)
+IsPlain may (items.Fence f) = ⊥
+IsPlain may (items.Input t) = ⊥
+IsPlain may (items.Output t) = ⊥
+
+row_plain : (may : Permission) (instr : Narrow) (length : ℕ) (s : X64) → AllMakes (IsPlain may) (x64_row may instr length s)
+row_plain may (Move to from) length s = tt
+row_plain may (Load to base) length s = makes_reads (IsPlain may) may s.at (s.regs base) 8 (λ v. goes (State (after length (put to v s.regs) s))) (λ allowed v. (refl, allowed)) (λ v. tt)
+row_plain may (Store base from) length s = makes_writes (IsPlain may) may s.at (s.regs base) 8 (s.regs from) (goes (State (after length s.regs s))) (λ allowed. (refl, allowed)) tt
+row_plain may (Move32 to n) length s = tt
+row_plain may (Move64 to n) length s = tt
+row_plain may Ret length s = makes_reads (IsPlain may) may s.at (s.regs 4) 8 (λ v. goes (Return (after length (put 4 ((s.regs 4 + 8) % 2 ^ 64) s.regs) s) v)) (λ allowed v. (refl, allowed)) (λ v. tt)
+
+resolve_plain : (may : Permission) (is_site : ℕ → Bool) (exit : Exit) → AllMakes (IsPlain may) (resolve is_site exit)
+resolve_plain may is_site (State s) = tt
+resolve_plain may is_site (Return s target) =
+    makes_choice (IsPlain may) (target == 0) (Gives (Stops Halted)) (if is_site target then goes (record s { at = target }) else traps BadReturn) tt
+    (makes_choice (IsPlain may) (is_site target) (goes (record s { at = target })) (traps BadReturn) tt tt)
+
+take_plain : (may : Permission) (is_site : ℕ → Bool) (p : Option PlacedNarrow) (s : X64) → AllMakes (IsPlain may) (x64_take may is_site p s)
+take_plain may is_site None s = tt
+take_plain may is_site (Some p) s = makes_then (IsPlain may) (x64_row may p.instr p.length s) (resolve is_site) (row_plain may p.instr p.length s) (resolve_plain may is_site)
+
+-- a thread makes unlocked accesses that are allowed, and no other item
+pub x64_plain : (may : Permission) (placed : ℕ → Option PlacedNarrow) (is_site : ℕ → Bool) (s : X64) → AllMakes (IsPlain may) (x64_step may placed is_site s)
+x64_plain may placed is_site s = take_plain may is_site (placed s.at) s
