@@ -1,0 +1,6 @@
+pub mod Reach
+pub mod Nodes
+pub mod Sources
+pub mod Searching
+pub mod Rows
+pub mod Spans
