@@ -1,10 +1,12 @@
 -- What a caller of this crate cites.
-use Rattle.std.proofs.Common.{◌≡◌, ◌≤◌, ℕ, zero, suc, List, [], ◌∷◌, inl, inr, Some, None, sum_by, ap, sym, subst}
+use Rattle.std.proofs.Common.{◌≡◌, ◌≤◌, ℕ, zero, suc, List, [], ◌∷◌, inl, inr, Some, None, sum_by, ◌↔◌, ap, sym, subst}
 use Rattle.std.specs.List.{slice_get}
 use Rattle.ev_graph.specs.Places.{StandsIn}
-use Rattle.graph_reach.specs.Reach.{Reached, IsReachedSet, IsOver, HasPath, IsFirst}
+use Rattle.graph_reach.specs.Reach.{From, Reached, IsReachedSet, IsOver, HasPath, IsFirst}
 use Rattle.graph_reach.specs.Reach.Reached.{start, step}
+use Rattle.graph_reach.specs.Backwards.{IsTurned, IsClosed}
 use Rattle.graph_reach.proofs.Searches as searches
+use Rattle.graph_reach.proofs.TurnedEdges as turned
 
 -- what is reached has a finite way along edges from a start, and the other way
 pub path : (successors : ℕ → List ℕ) (starts : List ℕ) (a : ℕ) → Reached successors starts a → HasPath successors starts a
@@ -47,3 +49,12 @@ none_is P (x ∷ ks) is k at holds = elim is [
     go : (P x → ⊥) → ((i : ℕ) → slice_get ks i ≡ Some k → ⊥) → (i : ℕ) → slice_get (x ∷ ks) i ≡ Some k → ⊥
     go first rest zero here = first (let same : k ≡ x = cc in subst P same holds)
     go first rest (suc i) here = rest i here
+
+-- among nodes that edges do not leave, a is reached from s exactly where s is reached from a against the edges
+pub reached_backwards : (successors back : ℕ → List ℕ) (nodes : List ℕ) → IsTurned successors nodes back → IsClosed successors nodes
+    → (a s : ℕ) → StandsIn nodes s → From successors a s ↔ (StandsIn nodes a × From back s a)
+reached_backwards = turned.reached_backwards
+
+-- the nodes that a search found are such nodes
+pub closed : (successors : ℕ → List ℕ) (starts nodes : List ℕ) → IsReachedSet successors starts nodes → IsClosed successors nodes
+closed successors starts nodes whole a b in_a leads = whole.each b (step (whole.only a in_a) leads)

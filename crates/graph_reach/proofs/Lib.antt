@@ -6,3 +6,4 @@ pub mod Places
 pub mod RowLemmas
 pub mod Searches
 pub mod Weights
+pub mod TurnedEdges

@@ -4,3 +4,5 @@ pub mod Sources
 pub mod Searching
 pub mod Rows
 pub mod Spans
+pub mod Backwards
+pub mod Turning

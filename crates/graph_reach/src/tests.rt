@@ -121,3 +121,23 @@ fn rows_are_those_that_were_put(rt: HostRuntime) -> Result<(), Fail> {
     assert_eq!(rt; rows.weight(5), 1);
     Ok(())
 }
+
+#[test]
+fn what_leads_to_a_node_by_turned_edges(rt: HostRuntime) -> Result<(), Fail> {
+    let rows = diamond(rt.alloc())?;
+    let Some(nodes) = reach(rt.alloc(), &rows, &[4], 5)? else {
+        panic!(rt; "five nodes weigh 5");
+    };
+    let back = Backwards::of(rt.alloc(), &rows, &nodes)?;
+    // All lead to 3 in the end; none but 4 leads to 4; 4 leads to 2 by way of 0.
+    for (node, want) in [(3, &[0_u64, 1, 2, 3, 4][..]), (4, &[4]), (2, &[0, 2, 4])] {
+        let Some(found) = reach(rt.alloc(), &back, &[node], 5)? else {
+            panic!(rt; "five nodes weigh 5");
+        };
+        assert_eq!(rt; sorted(rt.alloc(), &found)?.as_slice(), want);
+    }
+    let sources = first_sources(rt.alloc(), &back, &[2, 3])?;
+    assert_eq!(rt; sources.of(0), Some(2));
+    assert_eq!(rt; sources.of(1), Some(3));
+    Ok(())
+}
