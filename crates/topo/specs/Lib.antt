@@ -1,0 +1,3 @@
+pub mod Order
+pub mod Links
+pub mod Walk

@@ -1,0 +1,17 @@
+use ev_graph::List;
+
+/// An edge between two numbers.
+#[derive(Clone, Copy, Debug, PartialEq, Eq, Hash)]
+pub struct Edge {
+    pub from: u32,
+    pub to: u32,
+}
+
+/// What can be said of numbers and the edges between them.
+#[derive(Debug, Drop)]
+pub enum TopoAnswer {
+    /// Each number once, so that every edge goes forward.
+    Order(List<u32>),
+    /// Distinct numbers: an edge leads from each to the next, and from the last to the first.
+    Cycle(List<u32>),
+}
