@@ -1,0 +1,6 @@
+pub mod NumberLemmas
+pub mod PartLemmas
+pub mod KeptLemmas
+pub mod EventLemmas
+pub mod StageLemmas
+pub mod ReadLemmas

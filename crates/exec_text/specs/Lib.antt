@@ -1,0 +1,6 @@
+pub mod Parts
+pub mod Numbers
+pub mod Reading
+pub mod Events
+pub mod Lines
+pub mod Texts
