@@ -4,3 +4,4 @@ pub mod KeptLemmas
 pub mod EventLemmas
 pub mod StageLemmas
 pub mod ReadLemmas
+pub mod PrintLemmas

@@ -4,3 +4,5 @@ pub mod Reading
 pub mod Events
 pub mod Lines
 pub mod Texts
+pub mod Explained
+pub mod Entries

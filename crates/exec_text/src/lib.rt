@@ -9,9 +9,11 @@ mod fault;
 mod lines;
 mod numbers;
 mod parts;
+mod print;
 mod read;
 mod stage;
 
 pub use exec_file::{ExecFile, Given, GivenThread};
 pub use fault::{ReadFault, TextFault, TextKind};
+pub use print::print_exec;
 pub use read::read_exec;
