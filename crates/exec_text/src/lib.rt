@@ -17,3 +17,6 @@ pub use exec_file::{ExecFile, Given, GivenThread};
 pub use fault::{ReadFault, TextFault, TextKind};
 pub use print::print_exec;
 pub use read::read_exec;
+
+#[cfg(test)]
+mod tests;
