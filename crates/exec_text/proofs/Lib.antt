@@ -5,3 +5,5 @@ pub mod EventLemmas
 pub mod StageLemmas
 pub mod ReadLemmas
 pub mod PrintLemmas
+pub mod OneReading
+pub mod OneAnswer

@@ -1,17 +1,8 @@
-use Rattle.std.proofs.Common.{sym, subst}
-use Rattle.exec_text.specs.declared.fault.ReadFault.{ReadFault}
-use Rattle.exec_text.specs.Texts.{IsFault}
-use Rattle.exec_text.proofs.ReadLemmas.{line_read, line_fault}
+use Rattle.exec_text.proofs.OneAnswer.{only_says, only_fault}
 use Rattle.exec_text.proofs.read.read_exec.Goals as goal
 
-pub returns-in-Err-clause-fault : goal.returns-in-Err-clause-fault
-returns-in-Err-clause-fault c =
-    let Told : ReadFault → Type 0 = λ fault. IsFault c.args.text.now fault in
-    subst Told (sym c.at.ensures)
-    (line_fault c.args.text.now c.loop-bytes.rest.now c.in-Some.bytes.now c.in-Some.others.now c.loop-bytes.stage c.loop-bytes.line c.in-Err.fault c.in-Some.ensures.parts c.in-Err.ensures
-    c.loop-bytes.invariant)
+pub returns-clause-only_says : goal.returns-clause-only_says
+returns-clause-only_says c = only_says c.args.text.now c.read_lines.result c.read_lines.ensures.says c.read_lines.ensures.fault
 
-pub loop-bytes-preserved : goal.loop-bytes-preserved
-loop-bytes-preserved c =
-    line_read c.args.text.now c.loop-bytes.rest.now c.in-Some.bytes.now c.in-Some.others.now c.loop-bytes.stage c.in-Ok.next c.loop-bytes.line c.in-Some.ensures.parts c.in-Some.ensures.length
-    c.in-Ok.ensures.0 c.in-Ok.ensures.1 c.loop-bytes.invariant
+pub returns-clause-only_fault : goal.returns-clause-only_fault
+returns-clause-only_fault c = only_fault c.args.text.now c.read_lines.result c.read_lines.ensures.says c.read_lines.ensures.fault

@@ -1,6 +1,6 @@
 use Rattle.std.proofs.Common.{length}
 use Rattle.exec_text.proofs.ReadLemmas.{ReadSo}
-use Rattle.exec_text.proofs.read.read_exec.Given as goal
+use Rattle.exec_text.proofs.read.read_lines.Given as goal
 
 abbrev pub invariant-loop-bytes : goal.invariant-loop-bytes
 invariant-loop-bytes l = ReadSo l.text l.rest l.stage l.line
