@@ -7,3 +7,4 @@ pub mod ReadLemmas
 pub mod PrintLemmas
 pub mod OneReading
 pub mod OneAnswer
+pub mod CallerLemmas

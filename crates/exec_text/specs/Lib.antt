@@ -6,3 +6,4 @@ pub mod Lines
 pub mod Texts
 pub mod Explained
 pub mod Entries
+pub mod Examples

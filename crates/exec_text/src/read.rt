@@ -47,7 +47,8 @@ fn read_lines(alloc: Global, text: &[u8]) -> Result<ExecFile, ReadFault>
 
 /// What the text of an execution says; else the first line that leaves the grammar, and how.
 ///
-/// Each byte is looked at a few times, however long its line is. No more is kept than the limits allow.
+/// Each byte is looked at a few times, however long its line is, and it takes memory in proportion to the
+/// text.
 pub fn read_exec(alloc: Global, text: &[u8]) -> Result<ExecFile, ReadFault>
     requires { length text.now < 2 ^ 32 }
     ensures says { IfOk result (IsText text.now) }

@@ -1,1 +1,2 @@
+mod printing;
 mod reading;
