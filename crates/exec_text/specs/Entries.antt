@@ -13,6 +13,7 @@ abbrev pub read_in : AccessKind → EventId → List EventId
 read_in Read id = id ∷ []
 read_in Write id = []
 
+-- the id of an item, where it is a read
 abbrev pub item_read : Item → List EventId
 item_read (item.Access a) = read_in a.kind a.id
 item_read (item.Fence f) = []

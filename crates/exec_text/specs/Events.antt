@@ -28,10 +28,12 @@ IsSources text sources = AllZip IsSource (parts_at 44 text) sources × (length s
 abbrev pub IsSmallEvent : EventId → Type 0
 IsSmallEvent e = (e.thread ≤ 15) × (e.index ≤ 4095)
 
+-- the limits of a source: those of its event
 abbrev pub IsSmallSource : Source → Type 0
 IsSmallSource Start = Unit {0}
 IsSmallSource (From e) = IsSmallEvent e
 
+-- the limits of a list of sources
 abbrev pub AreSmallSources : List Source → Type 0
 AreSmallSources sources = AllByRecursion IsSmallSource sources
 

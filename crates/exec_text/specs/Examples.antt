@@ -18,6 +18,7 @@ sb_write t = record { id = record { thread = t; index = 0 }; kind = Write; locke
 abbrev pub sb_read : ℕ → Access
 sb_read t = record { id = record { thread = t; index = 1 }; kind = Read; locked = false; address = 0x404008 - 8 * t; size = 8; value = 0; place = 0x401012 + 22 * t }
 
+-- the two accesses of a thread, whose run is cut behind them
 abbrev pub sb_thread : ℕ → ThreadRun
 sb_thread t = record { items = item.Access (sb_write t) ∷ item.Access (sb_read t) ∷ []; end = Running }
 
@@ -25,6 +26,7 @@ sb_thread t = record { items = item.Access (sb_write t) ∷ item.Access (sb_read
 abbrev pub sb_entry : ℕ → ReadFrom
 sb_entry t = record { read = record { thread = t; index = 1 }; bytes = Start ∷ Start ∷ Start ∷ Start ∷ Start ∷ Start ∷ Start ∷ Start ∷ [] }
 
+-- the execution: two threads, and each reads the start
 abbrev pub store_buffering : Execution
 store_buffering = record {
   stacks = record { lo = 0x700000; hi = 0x710000 } ∷ record { lo = 0x710000; hi = 0x720000 } ∷ [];
@@ -38,12 +40,15 @@ store_buffering = record {
 abbrev pub form_read : Access
 form_read = record { id = record { thread = 0; index = 0 }; kind = Read; locked = true; address = 0x404000; size = 1; value = 0; place = 0x40100c }
 
+-- the locked write
 abbrev pub form_write : Access
 form_write = record { id = record { thread = 0; index = 1 }; kind = Write; locked = true; address = 0x404000; size = 1; value = 1; place = 0x40100c }
 
+-- the read of two bytes: one that was written, and one from the start
 abbrev pub form_wide : Access
 form_wide = record { id = record { thread = 0; index = 2 }; kind = Read; locked = false; address = 0x404000; size = 2; value = 1; place = 0x401013 }
 
+-- the items, with an input, a fence and an output
 abbrev pub form_thread : ThreadRun
 form_thread = record {
   items = item.Input (record { value = 0x2a; place = 0x401000 }) ∷ item.Access form_read ∷ item.Access form_write ∷ item.Fence (record { kind = Mfence; place = 0x401010 })
@@ -51,6 +56,7 @@ form_thread = record {
   end = Halted;
 }
 
+-- the execution of that thread alone
 abbrev pub every_form : Execution
 every_form = record {
   stacks = record { lo = 0x700000; hi = 0x710000 } ∷ [];

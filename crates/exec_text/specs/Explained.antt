@@ -24,6 +24,7 @@ hex n = digits 16 false n
 abbrev pub event_text : EventId → List ℕ
 event_text id = decimal id.thread ++ codes "." ++ decimal id.index
 
+-- the start, or an event
 abbrev pub source_text : Source → List ℕ
 source_text Start = codes "init"
 source_text (From id) = event_text id
@@ -32,6 +33,7 @@ source_text (From id) = event_text id
 abbrev pub same_event : EventId → EventId → Bool
 same_event a b = (a.thread == b.thread) && (a.index == b.index)
 
+-- the two sources are one
 abbrev pub same_source : Source → Source → Bool
 same_source Start Start = true
 same_source (From a) (From b) = same_event a b
@@ -73,24 +75,27 @@ abbrev pub origin_text : List ReadFrom → AccessKind → EventId → List ℕ
 origin_text rf Read id = codes " from " ++ listed (merged (sources_of rf id))
 origin_text rf Write id = []
 
+-- an item's line
 abbrev pub item_line : List ReadFrom → Item → List ℕ
 item_line rf (item.Access a) = access_text a ++ origin_text rf a.kind a.id ++ place_text a.place
 item_line rf (item.Fence f) = codes "fence" ++ place_text f.place
 item_line rf (item.Input v) = codes "in " ++ hex v.value ++ place_text v.place
 item_line rf (item.Output v) = codes "out " ++ hex v.value ++ place_text v.place
 
--- the stacks of the threads from this number on
+-- the stack of the thread with this number
 abbrev pub stack_line : ℕ → Stack → List ℕ
 stack_line n s = codes "stack " ++ decimal n ++ codes " " ++ hex s.lo ++ codes " " ++ hex s.hi ++ codes "\n"
 
+-- the stacks of the threads from this number on
 abbrev pub stack_lines : ℕ → List Stack → List ℕ
 stack_lines n [] = []
 stack_lines n (s ∷ stacks) = stack_line n s ++ stack_lines (n + 1) stacks
 
--- the threads from this number on, each with its items
+-- the first line of the thread with this number
 abbrev pub thread_line : ℕ → ThreadRun → List ℕ
 thread_line n t = codes "thread " ++ decimal n ++ codes " " ++ end_word t.end ++ codes "\n"
 
+-- the threads from this number on, each with its items
 abbrev pub thread_lines : List ReadFrom → ℕ → List ThreadRun → List ℕ
 thread_lines rf n [] = []
 thread_lines rf n (t ∷ threads) = thread_line n t ++ flat_map (item_line rf) t.items ++ thread_lines rf (n + 1) threads

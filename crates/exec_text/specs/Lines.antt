@@ -49,6 +49,7 @@ end_word (Trap Invalid) = codes "invalid"
 end_word (Trap BadReturn) = codes "badreturn"
 end_word (Trap BadJump) = []
 
+-- the text is the word of this end
 abbrev pub IsEndWord : List ℕ → End → Type 0
 IsEndWord text end = (text ≡ end_word end) × (end ≢ Trap BadJump)
 
@@ -133,11 +134,12 @@ Rule _ _ _ _ = ⊥
 abbrev pub Next : Stage → List ℕ → Stage → Type 0
 Next stage line next = (w : Word) × (fields : List (List ℕ)) × (parts_at 32 line ≡ spelled w ∷ fields) × Rule stage w fields next
 
--- the limits of a value, and of a thread's values
+-- the limits of a value
 abbrev pub IsSmallGiven : Given → Type 0
 IsSmallGiven (given.Read value sources) = AreSmallSources sources
 IsSmallGiven (given.Input value) = Unit {0}
 
+-- the limits of a thread's values
 abbrev pub HasSmallValues : GivenThread → Type 0
 HasSmallValues t = AllByRecursion IsSmallGiven t.values
 
