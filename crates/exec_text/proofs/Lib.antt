@@ -1,0 +1,10 @@
+pub mod NumberLemmas
+pub mod PartLemmas
+pub mod KeptLemmas
+pub mod EventLemmas
+pub mod StageLemmas
+pub mod ReadLemmas
+pub mod PrintLemmas
+pub mod OneReading
+pub mod OneAnswer
+pub mod CallerLemmas
