@@ -1,0 +1,6 @@
+pub mod SegmentLemmas
+pub mod SectionLemmas
+pub mod NameLemmas
+pub mod ListedLemmas
+pub mod ListingLemmas
+pub mod FaultLemmas
