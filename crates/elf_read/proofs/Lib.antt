@@ -4,3 +4,4 @@ pub mod NameLemmas
 pub mod ListedLemmas
 pub mod ListingLemmas
 pub mod FaultLemmas
+pub mod ProgramLemmas

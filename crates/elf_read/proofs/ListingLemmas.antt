@@ -115,7 +115,7 @@ was_named name symbols strings (suc i) v found =
     (cases_Bool (is_symbol name symbols strings (24 * i)))
 
 -- without a value no symbol has the name
-not_named : (name symbols strings : List ℕ) (i : ℕ) → value_from name symbols strings 0 i ≡ None
+pub not_named : (name symbols strings : List ℕ) (i : ℕ) → value_from name symbols strings 0 i ≡ None
     → (j : ℕ) → j < i → is_symbol name symbols strings (24 * j) ≡ true → ⊥
 not_named name symbols strings zero none j low is = absurd (omega arith)
 not_named name symbols strings (suc i) none j low is =

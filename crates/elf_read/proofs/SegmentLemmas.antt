@@ -6,7 +6,7 @@ use Rattle.std.proofs.lemmas.List.Sums.{sum_by-cons}
 use Rattle.std.specs.Prelude.{sum_by, map, ◌++◌}
 use Rattle.ev_graph.specs.Memory.{Part}
 use Rattle.elf_read.specs.Fields.{e_phoff, e_phnum, program_header_at, p_type, p_memsz}
-use Rattle.elf_read.specs.ElfFile.{segment_at, segments_from}
+use Rattle.elf_read.specs.ElfFile.{segment_at, segments_from, segments_of}
 use Rattle.elf_read.specs.Elf.{segment_part}
 use Rattle.elf_read.specs.FileFaults.{memory_size}
 use Rattle.elf_read.specs.declared.elf.Segment.{Segment}
@@ -56,12 +56,16 @@ pub size_none : (bytes : List ℕ) (n : ℕ) → e_phnum bytes ≤ n → left_si
 unfolding left_size
 size_none bytes n past = ap (λ (parts : List Part). sum_by (λ (part : Part). part.size) parts) (left_none bytes n past)
 
-pub size_all : (bytes : List ℕ) → left_size bytes 0 ≡ memory_size bytes
-unfolding left_size
-size_all bytes =
+-- from the first on they are all
+pub segments_whole : (bytes : List ℕ) → segments_left bytes 0 ≡ segments_of bytes
+segments_whole bytes =
     let start : program_header_at bytes 0 ≡ e_phoff bytes = omega arith in
     let count : e_phnum bytes - 0 ≡ e_phnum bytes = omega arith in
     rw (start, count) refl
+
+pub size_all : (bytes : List ℕ) → left_size bytes 0 ≡ memory_size bytes
+unfolding left_size
+size_all bytes = ap (λ (parts : List Part). sum_by (λ (part : Part). part.size) parts) (segments_whole bytes)
 
 -- one more segment was read
 pub read_more : (bytes : List ℕ) (n : ℕ) (segments : List Segment) (segment : Segment) (all : List Part) → n < e_phnum bytes → p_type bytes (program_header_at bytes n) ≡ 1

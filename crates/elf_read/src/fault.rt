@@ -1,6 +1,7 @@
 ghost use Rattle.std.specs.Prelude.{◌≡◌};
 ghost use Rattle.elf_read.specs.declared.fault.TransFault.TheVariants.{NoMemory as OutOfMemory};
 
+use ev_graph::NoMemory;
 use std::alloc::{AllocError, AllocFailed};
 use thiserror::Error;
 
@@ -75,6 +76,14 @@ pub enum TransFault {
     File(#[from] FileFault),
     #[error("out of memory")]
     NoMemory,
+}
+
+impl From<NoMemory> for TransFault {
+    ghost from_gives = { λ _ fault. fault ≡ OutOfMemory };
+
+    fn from(_fault: NoMemory) -> TransFault {
+        TransFault::NoMemory
+    }
 }
 
 impl From<AllocError> for TransFault {

@@ -18,3 +18,6 @@ mod symbols;
 pub use elf::{Elf, Segment};
 pub use fault::{BadCodeKind, CodeFault, FileFault, TransFault};
 pub use read::read_elf;
+
+#[cfg(test)]
+mod tests;

@@ -1,9 +1,9 @@
 ghost use Rattle.std.specs.Prelude.{◌≡◌, ◌≤◌, ℕ, length, IfOk, OnOk};
 ghost use Rattle.elf_read.specs.Checked.{HasProgramTable};
-ghost use Rattle.elf_read.specs.Elf.{parts_of};
+ghost use Rattle.elf_read.specs.Elf.{IsProgram, parts_of};
 ghost use Rattle.elf_read.specs.ElfFile.{segments_of, symbols_of, strings_of, symbol_count, threads_of, address_of, input_name, output_name};
 ghost use Rattle.elf_read.specs.FileFaults.{Holds};
-ghost use Rattle.elf_read.specs.FirstFault.{Looks, LooksFor};
+ghost use Rattle.elf_read.specs.FirstFault.{Clear, Looks, LooksFor, rank};
 ghost use Rattle.elf_read.specs.Listed.{Lists};
 
 use crate::elf::Elf;
@@ -92,12 +92,14 @@ fn check_file(bytes: &[u8]) -> Result<Listing, FileFault>
 
 /// The program that a file without a fault holds.
 fn program(alloc: Global, bytes: &[u8], listing: &Listing) -> Result<Elf, AllocError>
+    requires clear { Clear (Holds bytes.now) 1 13 }
     requires table { HasProgramTable bytes.now }
     requires listed { Lists (symbols_of bytes.now) (strings_of bytes.now) (symbol_count (symbols_of bytes.now)) listing.now }
     ensures segments { IfOk result (λ elf. parts_of elf ≡ segments_of bytes.now) }
     ensures threads { IfOk result (λ elf. elf.threads ≡ threads_of bytes.now) }
     ensures input { IfOk result (λ elf. elf.input ≡ address_of bytes.now input_name) }
     ensures output { IfOk result (λ elf. elf.output ≡ address_of bytes.now output_name) }
+    ensures program { IfOk result (λ elf. IsProgram (parts_of elf) elf.threads) }
 {
     let segments = read_segments(alloc, bytes)?;
     let threads = threads(alloc, listing)?;
@@ -114,11 +116,12 @@ fn program(alloc: Global, bytes: &[u8], listing: &Listing) -> Result<Elf, AllocE
 ///
 /// A file is refused for its first fault, from TooLong to DoubleName.
 pub fn read_elf(alloc: Global, bytes: &[u8]) -> Result<Elf, TransFault>
-    ensures first { LooksFor (Holds bytes.now) 1 13 result }
+    ensures first { LooksFor (Holds bytes.now) (rank FileFault.TooLong) (rank FileFault.TooMuchCode) result }
     ensures segments { IfOk result (λ elf. parts_of elf ≡ segments_of bytes.now) }
     ensures threads { IfOk result (λ elf. elf.threads ≡ threads_of bytes.now) }
     ensures input { IfOk result (λ elf. elf.input ≡ address_of bytes.now input_name) }
     ensures output { IfOk result (λ elf. elf.output ≡ address_of bytes.now output_name) }
+    ensures program { IfOk result (λ elf. IsProgram (parts_of elf) elf.threads) }
 {
     let listing = check_file(bytes).map_err(TransFault::File)?;
     let elf = program(alloc, bytes, &listing)?;
