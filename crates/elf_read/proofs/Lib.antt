@@ -5,3 +5,4 @@ pub mod ListedLemmas
 pub mod ListingLemmas
 pub mod FaultLemmas
 pub mod ProgramLemmas
+pub mod CallerLemmas
