@@ -1,14 +1,16 @@
 -- What a caller of this crate cites.
-use Rattle.std.proofs.Common.{◌≡◌, ◌<◌, ◌≤◌, ℕ, List, arith, refl, sym, ap, ◌∙◌, inl, inr, ⊎_elim}
+use Rattle.std.proofs.Common.{◌≡◌, ◌<◌, ◌≤◌, ◌+◌, ℕ, List, length, drop, arith, refl, sym, ap, ◌∙◌, inl, inr, ⊎_elim}
 use Rattle.std.specs.Prelude.{◌==◌, if◌then◌else◌}
 use Rattle.std.proofs.lemmas.Bool.{cases_lt}
+use Rattle.std.proofs.lemmas.List.{length-drop, length-take}
 use Rattle.ev_graph.specs.Memory.{Part, cells_of}
 use Rattle.elf_read.specs.declared.elf.Elf.{Elf}
 use Rattle.elf_read.specs.declared.fault.FileFault.{FileFault}
 use Rattle.elf_read.specs.declared.fault.FileFault.TheVariants.{TooLong, Short, Magic, Class, BadType, Machine, ProgramTable, Segment, TooBig, SymbolTable, NoThread, DoubleName, TooMuchCode, BadCode, Indirect, Overlap, TableEntered, UndefinedFlag}
 use Rattle.elf_read.specs.Elf.{IsProgram, parts_of, elf_cells}
-use Rattle.elf_read.specs.ElfFile.{segments_of, threads_of}
-use Rattle.elf_read.specs.Fields.{e_type, e_machine}
+use Rattle.elf_read.specs.Bytes.{PassesEnd}
+use Rattle.elf_read.specs.ElfFile.{segments_of, section_bytes, threads_of}
+use Rattle.elf_read.specs.Fields.{e_type, e_machine, sh_offset, sh_size}
 use Rattle.elf_read.specs.FileFaults.{Holds}
 use Rattle.elf_read.specs.FirstFault.{rank, place, Before, Clear, IsFirst}
 use Rattle.elf_read.proofs.ProgramLemmas.{clear_is_program}
@@ -97,3 +99,13 @@ no_fault_is_program = clear_is_program
 -- the cells that are told are those of the file's segments
 pub elf_cells-segments : (bytes : List ℕ) (elf : Elf) (n : ℕ) → parts_of elf ≡ segments_of bytes → elf_cells elf n ≡ cells_of (segments_of bytes) n
 elf_cells-segments bytes elf n same = ap (λ (parts : List Part). cells_of parts n) same
+
+-- a section that does not pass the end has as many bytes as its header says
+pub length-section_bytes : (bytes : List ℕ) (at : ℕ) → (PassesEnd bytes (sh_offset bytes at) (sh_size bytes at) → ⊥) → length (section_bytes bytes at) ≡ sh_size bytes at
+length-section_bytes bytes at within =
+    let taken = length-take (sh_size bytes at) (drop (sh_offset bytes at) bytes) in
+    let dropped = length-drop (sh_offset bytes at) bytes in
+    ⊎_elim (λ (some : 0 < sh_size bytes at).
+    ⊎_elim (λ (past : length bytes < sh_offset bytes at + sh_size bytes at). absurd (within (some, past)))
+    (λ (low : sh_offset bytes at + sh_size bytes at ≤ length bytes). taken ∙ omega arith) (cases_lt (length bytes) (sh_offset bytes at + sh_size bytes at)))
+    (λ (none : sh_size bytes at ≤ 0). taken ∙ omega arith) (cases_lt 0 (sh_size bytes at))

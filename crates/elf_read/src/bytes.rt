@@ -1,4 +1,5 @@
 ghost use Rattle.std.specs.Prelude.{◌≡◌, ◌+◌, ◌≤◌, ◌<◌, ◌↔◌, ℕ, ◌≢◌, length, drop, take, IsTrue, MatchBool};
+ghost use Rattle.ev_graph.specs.Memory.{has_flag};
 ghost use Rattle.elf_read.specs.Bytes.{number_at, range_at, PassesEnd};
 
 use byteorder::{ByteOrder, LittleEndian};
@@ -74,6 +75,14 @@ pub fn range_at(bytes: &[u8], offset: u64, size: u64) -> &[u8]
     ensures { result.now ≡ range_at bytes.now offset size }
 {
     bytes_to(bytes_from(bytes, offset), size)
+}
+
+/// Whether a flag, a power of two, is among the flags.
+pub fn has_flag(flags: u64, flag: u64) -> bool
+    requires { 0 < flag }
+    ensures { result ≡ has_flag flags flag }
+{
+    flags / flag % 2 == 1
 }
 
 /// Whether two runs of bytes are the same.

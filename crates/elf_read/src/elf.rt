@@ -3,7 +3,15 @@ ghost use Rattle.std.specs.Option.{option_map};
 ghost use Rattle.ev_graph.specs.Memory.{Cell, Allows, cell_in, permits, has_flag};
 ghost use Rattle.elf_read.specs.Elf.{segment_part, elf_cells};
 
+use crate::bytes::has_flag;
 use ev_graph::{List, StartMemory};
+
+/// The flags of segments.
+pub const PF_X: u64 = 1;
+
+pub const PF_W: u64 = 2;
+
+pub const PF_R: u64 = 4;
 
 /// A segment of a program (System V gABI, chapter 5): `size` bytes of memory from `address` on, first
 /// `bytes` and then zeros.
@@ -52,11 +60,7 @@ impl Segment {
     fn permits(&self, write: bool) -> bool
         ensures { result ≡ (if write then has_flag self.now.flags 2 else has_flag self.now.flags 4) }
     {
-        if write {
-            self.flags / 2 % 2 == 1
-        } else {
-            self.flags / 4 % 2 == 1
-        }
+        has_flag(u64::from(self.flags), if write { PF_W } else { PF_R })
     }
 }
 

@@ -7,7 +7,7 @@ ghost use Rattle.elf_read.specs.declared.listed.Listed.TheVariants.{Thread};
 
 use crate::bytes::xword_at;
 use crate::listed::Listed;
-use crate::symbols::{listed_at, symbol_count};
+use crate::symbols::{SYMBOL_SIZE, listed_at, symbol_count};
 use std::alloc::{AllocError, Global};
 
 /// Where the symbols with listed names are.
@@ -43,18 +43,17 @@ impl Listing {
     }
 
     /// The listing with the symbol of one more name.
-    fn with(self, name: Listed, address: u64) -> Listing
+    fn with(mut self, name: Listed, address: u64) -> Listing
         requires { IsListed name }
         ensures here { listed_value result name ≡ Some address }
         ensures others { (other : Listed) → IsListed other → other ≢ name → listed_value result other ≡ listed_value self other }
     {
-        let mut listing = self;
         match name {
-            Listed::Input => listing.input = Some(address),
-            Listed::Output => listing.output = Some(address),
-            Listed::Thread(number) => listing.threads[number as usize] = Some(address),
+            Listed::Input => self.input = Some(address),
+            Listed::Output => self.output = Some(address),
+            Listed::Thread(number) => self.threads[number as usize] = Some(address),
         }
-        listing
+        self
     }
 }
 
@@ -74,7 +73,7 @@ pub fn has_thread(symbols: &[u8], strings: &[u8]) -> bool
     ensures { MatchBool result ((i : ℕ) × IsNamed symbols.now strings.now i (thread_name 0)) (HasNoThread symbols.now strings.now) }
 {
     for i in 0..symbol_count(symbols) {
-        if begins_first_thread(symbols, strings, 24 * i) {
+        if begins_first_thread(symbols, strings, SYMBOL_SIZE * i) {
             return true;
         }
     }
@@ -90,7 +89,7 @@ pub fn list(symbols: &[u8], strings: &[u8]) -> Result<Listing, usize>
 {
     let mut listing = Listing::new();
     for i in 0..symbol_count(symbols) {
-        let at = 24 * i;
+        let at = SYMBOL_SIZE * i;
         let Some(name) = listed_at(symbols, strings, at) else {
             continue;
         };

@@ -9,7 +9,7 @@ use crate::bytes::{half_at, passes_end, word_at, xword_at};
 use crate::fault::FileFault;
 
 /// The bytes of a program header, and the most that a file may have.
-const ENTRY_SIZE: u16 = 56;
+const ENTRY_SIZE: usize = 56;
 
 const MOST_ENTRIES: usize = 64;
 
@@ -72,7 +72,7 @@ pub fn program_header(bytes: &[u8], number: usize) -> ProgramHeader
     ensures size { result.size ≡ p_memsz bytes.now (program_header_at bytes.now number) }
 {
     let table = xword_at(bytes, 32) as usize;
-    header_at(bytes, table + 56 * number)
+    header_at(bytes, table + ENTRY_SIZE * number)
 }
 
 /// Whether the program header table has a wrong shape: entries of another size, none or too many, or
@@ -83,13 +83,13 @@ fn is_misshapen(bytes: &[u8]) -> bool
         ⊎ PassesEnd bytes.now (e_phoff bytes.now) (56 * e_phnum bytes.now)))) }
 {
     let count = program_count(bytes);
-    if half_at(bytes, 54) != ENTRY_SIZE {
+    if usize::from(half_at(bytes, 54)) != ENTRY_SIZE {
         return true;
     }
     if count == 0 || count > MOST_ENTRIES {
         return true;
     }
-    passes_end(bytes, xword_at(bytes, 32), 56 * count as u64)
+    passes_end(bytes, xword_at(bytes, 32), (ENTRY_SIZE * count) as u64)
 }
 
 /// Whether a program header asks for a linker when the program starts.

@@ -5,10 +5,10 @@ ghost use Rattle.elf_read.specs.Fields.{e_shoff, e_shnum, section_header_at, sh_
 ghost use Rattle.elf_read.specs.FileFaults.{Holds, IsBadSectionTable, IsBadSymbolSection, IsBadStringSection, IsUnreadable};
 ghost use Rattle.elf_read.specs.declared.fault.FileFault.TheVariants.{SymbolTable};
 
-use crate::bytes::{half_at, passes_end, range_at, word_at, xword_at};
+use crate::bytes::{half_at, has_flag, passes_end, range_at, word_at, xword_at};
 
 /// The bytes of a section header, and of a symbol.
-const ENTRY_SIZE: u16 = 64;
+const ENTRY_SIZE: usize = 64;
 
 const SYMBOL_SIZE: u64 = 24;
 
@@ -16,6 +16,9 @@ const SYMBOL_SIZE: u64 = 24;
 const SHT_SYMTAB: u32 = 2;
 
 const SHT_STRTAB: u32 = 3;
+
+/// The flag of a section whose bytes are compressed.
+const SHF_COMPRESSED: u64 = 0x800;
 
 /// A section header: what its fields say of a section's bytes.
 #[derive(Clone, Copy, Debug, PartialEq, Eq)]
@@ -64,7 +67,7 @@ fn section_header_at(bytes: &[u8], number: usize) -> usize
     ensures value { result ≡ section_header_at bytes.now number }
     ensures whole { result + 64 ≤ length bytes.now }
 {
-    xword_at(bytes, 40) as usize + 64 * number
+    xword_at(bytes, 40) as usize + ENTRY_SIZE * number
 }
 
 /// Whether the section header table is bad: none, entries of another size, or some past the end.
@@ -77,10 +80,10 @@ fn is_bad_section_table(bytes: &[u8]) -> bool
     if offset == 0 {
         return true;
     }
-    if count == 0 || half_at(bytes, 58) != ENTRY_SIZE {
+    if count == 0 || usize::from(half_at(bytes, 58)) != ENTRY_SIZE {
         return true;
     }
-    passes_end(bytes, offset, 64 * count as u64)
+    passes_end(bytes, offset, (ENTRY_SIZE * count) as u64)
 }
 
 /// Where the header of the first symbol table stands.
@@ -104,7 +107,7 @@ fn is_unreadable(bytes: &[u8], at: usize) -> bool
     ensures { IsTrue result ↔ IsUnreadable bytes.now at }
 {
     let header = section_header(bytes, at);
-    if header.flags / 0x800 % 2 == 1 {
+    if has_flag(header.flags, SHF_COMPRESSED) {
         return true;
     }
     passes_end(bytes, header.offset, header.size)

@@ -6,8 +6,8 @@ ghost use Rattle.elf_read.specs.Fields.{e_phnum, program_header_at};
 ghost use Rattle.elf_read.specs.FirstFault.{Looks};
 ghost use Rattle.elf_read.specs.FileFaults.{Holds, IsBadSegment, SharesByte, SharesWith, memory_size};
 
-use crate::bytes::{passes_end, range_at};
-use crate::elf::Segment;
+use crate::bytes::{has_flag, passes_end, range_at};
+use crate::elf::{PF_W, PF_X, Segment};
 use crate::fault::FileFault;
 use crate::program_table::{PT_LOAD, ProgramHeader, program_count, program_header};
 use ev_graph::List;
@@ -36,7 +36,8 @@ fn is_bad_segment(bytes: &[u8], number: usize) -> bool
     if ends_too_high(header.address, header.size) {
         return true;
     }
-    header.flags / 2 % 2 == 1 && header.flags % 2 == 1
+    let flags = u64::from(header.flags);
+    has_flag(flags, PF_W) && has_flag(flags, PF_X)
 }
 
 /// Whether the end of a segment is above the highest.

@@ -8,7 +8,7 @@ use crate::bytes::{byte_at, half_at, is_same, range_at, word_at, xword_at};
 use crate::listed::{Listed, as_listed};
 
 /// The bytes of a symbol.
-const SYMBOL_SIZE: usize = 24;
+pub const SYMBOL_SIZE: usize = 24;
 
 /// More bytes than any listed name has.
 const WINDOW: u64 = 11;
@@ -56,7 +56,7 @@ pub fn has_nameless(symbols: &[u8], strings: &[u8]) -> bool
 {
     let end = names_end(strings);
     for i in 0..symbol_count(symbols) {
-        if is_nameless(symbols, 24 * i, end) {
+        if is_nameless(symbols, SYMBOL_SIZE * i, end) {
             return true;
         }
     }
