@@ -89,10 +89,11 @@ address_of bytes name = value_from name (symbols_of bytes) (strings_of bytes) 0 
 abbrev pub thread_name : ℕ → List ℕ
 thread_name k = codes "thread_" ++ decimal k
 
--- the names of the listed calls
+-- the name of the listed call that takes an input
 abbrev pub input_name : List ℕ
 input_name = codes "lsg_input"
 
+-- the name of the listed call that makes an output
 abbrev pub output_name : List ℕ
 output_name = codes "lsg_output"
 

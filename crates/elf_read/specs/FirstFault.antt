@@ -47,6 +47,7 @@ place (Overlap a) = a
 place (TableEntered a) = a
 place (UndefinedFlag a) = a
 
+-- one fault comes before another
 abbrev pub Before : FileFault → FileFault → Type 0
 Before g f = (rank g < rank f) ⊎ ((rank g ≡ rank f) × (place g < place f))
 

@@ -6,11 +6,13 @@ ghost use Rattle.elf_read.specs.Elf.{segment_part, elf_cells};
 use crate::bytes::has_flag;
 use ev_graph::{List, StartMemory};
 
-/// The flags of segments.
+/// The flag of a segment that may be executed.
 pub const PF_X: u64 = 1;
 
+/// The flag of one that may be written.
 pub const PF_W: u64 = 2;
 
+/// The flag of one that may be read.
 pub const PF_R: u64 = 4;
 
 /// A segment of a program (System V gABI, chapter 5): `size` bytes of memory from `address` on, first

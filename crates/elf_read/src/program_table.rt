@@ -8,16 +8,19 @@ ghost use Rattle.elf_read.specs.FileFaults.{Holds, IsLinkedAtStart};
 use crate::bytes::{half_at, passes_end, word_at, xword_at};
 use crate::fault::FileFault;
 
-/// The bytes of a program header, and the most that a file may have.
+/// The bytes of a program header.
 const ENTRY_SIZE: usize = 56;
 
+/// The most program headers that a file may have.
 const MOST_ENTRIES: usize = 64;
 
-/// Types of program headers.
+/// The type of a program header that describes a segment.
 pub const PT_LOAD: u32 = 1;
 
+/// The type of one that asks for dynamic linking.
 const PT_DYNAMIC: u32 = 2;
 
+/// The type of one that names an interpreter.
 const PT_INTERP: u32 = 3;
 
 /// A program header: what its fields say of a segment's place in the file and in memory.

@@ -7,14 +7,16 @@ ghost use Rattle.elf_read.specs.declared.fault.FileFault.TheVariants.{SymbolTabl
 
 use crate::bytes::{half_at, has_flag, passes_end, range_at, word_at, xword_at};
 
-/// The bytes of a section header, and of a symbol.
+/// The bytes of a section header.
 const ENTRY_SIZE: usize = 64;
 
+/// The bytes of a symbol.
 const SYMBOL_SIZE: u64 = 24;
 
-/// Types of sections.
+/// The type of a symbol table.
 const SHT_SYMTAB: u32 = 2;
 
+/// The type of a string table.
 const SHT_STRTAB: u32 = 3;
 
 /// The flag of a section whose bytes are compressed.
