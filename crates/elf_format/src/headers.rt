@@ -119,7 +119,7 @@ pub fn push_section_header(out: &mut Vec<u8>, header: SectionHeader) -> Result<(
     )
 }
 
-/// The section of a symbol table (SHT_SYMTAB) that stands at an offset, whose names are in section 2
+/// The section of a symbol table (SHT_SYMTAB) that stands at an offset, whose names are in number 2
 /// and whose first global symbol is number 1.
 pub fn symbol_section(name: u32, offset: u64, size: u64) -> SectionHeader
     ensures { result ≡ symbol_section name offset size }

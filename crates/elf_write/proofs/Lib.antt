@@ -8,3 +8,4 @@ pub mod Ends
 pub mod Kept
 pub mod Readable
 pub mod Cells
+pub mod CallerLemmas
