@@ -7,3 +7,6 @@ mod built;
 
 pub use built::build;
 pub use elf_format::Symbol;
+
+#[cfg(test)]
+mod tests;
