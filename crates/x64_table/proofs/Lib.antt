@@ -1,2 +1,1 @@
-pub mod SpellingLemmas
-pub mod MachineLemmas
+

@@ -1,4 +1,4 @@
-pub mod Spelling
-pub mod Reading
+pub mod State
+pub mod Outcomes
+pub mod Rows
 pub mod Machine
-pub mod Slots
