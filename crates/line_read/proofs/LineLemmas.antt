@@ -1,6 +1,8 @@
 -- A line is the only one from its address on, and it is read instruction by instruction.
-use Rattle.std.proofs.Common.{◌≡◌, ◌≢◌, ℕ, suc, ◌+◌, ◌^◌, ◌<◌, ◌≤◌, true, false, List, [], ◌∷◌, ◌++◌, length, arith, refl, sym, ap, ◌∙◌, subst, inl, inr}
-use Rattle.std.specs.Prelude.{◌⊎◌}
+use Rattle.std.proofs.Common.{◌≡◌, ◌≢◌, ℕ, suc, ◌+◌, ◌^◌, ◌<◌, ◌≤◌, ◌==◌, Bool, true, false, List, [], ◌∷◌, ◌++◌, length, Some, None, arith, refl, sym, ap, ◌∙◌, subst, inl, inr}
+use Rattle.std.specs.Prelude.{◌⊎◌, if◌then◌else◌}
+use Rattle.std.proofs.lemmas.Bool.{eq-eqb}
+use Rattle.std.proofs.lemmas.Bool.Decides.{nat_tests}
 use Rattle.std.specs.List.{AllByRecursion}
 use Rattle.std.proofs.lemmas.Bool.{cases_lt}
 use Rattle.ev_graph.specs.Memory.{Part}
@@ -8,7 +10,7 @@ use Rattle.x64_syntax.specs.declared.placed.Placed.{Placed}
 use Rattle.x64_decode.proofs.CallerLemmas.{spelling-formed}
 use Rattle.elf_read.specs.Elf.{IsSegment}
 use Rattle.line_read.specs.Plain.{ends_line}
-use Rattle.line_read.specs.Line.{StandsAt, IsLine, Code, MayStand, AllMayStand, IsBuiltLine, Leads, IsUnbuiltAt, Covers, StandFrom, EndsLast, IsTranslated, IsStraight}
+use Rattle.line_read.specs.Line.{StandsAt, IsLine, Code, MayStand, AllMayStand, IsBuiltLine, Leads, IsUnbuiltAt, Covers, StandFrom, EndsLast, IsTranslated, IsStraight, Stand, placed_in}
 use Rattle.line_read.specs.Lines.{end_of}
 use Rattle.line_read.proofs.CodeLemmas.{stands_once, stands_some, stands_low}
 
@@ -153,3 +155,48 @@ line_some parts [] at end is same = absurd is
 line_some parts (p ∷ []) at end is same = omega (arith, stands_some parts at p is.0, same)
 line_some parts (p ∷ q ∷ ps) at end is same =
     let rest = line_some parts (q ∷ ps) (at + p.length) end is.2 same in omega (arith, rest)
+
+-- ---- the instructions of a line stand where the line has them
+
+placed_first : (p : Placed) (ps : List Placed) → placed_in (p ∷ ps) p.address ≡ Some p
+placed_first p ps = ap (λ b. if b then Some p else placed_in ps p.address) (eq-eqb p.address p.address refl)
+
+placed_later : (p : Placed) (ps : List Placed) (n : ℕ) → n ≢ p.address → placed_in (p ∷ ps) n ≡ placed_in ps n
+placed_later p ps n apart = ap (λ b. if b then Some p else placed_in ps n) (no_test n p.address apart)
+  where
+    no_test : (n m : ℕ) → n ≢ m → (n == m) ≡ false
+    no_test n m apart = grind (arith, nat_tests)
+
+-- instructions behind an address are found also with one at that address before them
+behind_first : (p : Placed) (line ps : List Placed) (at : ℕ) → p.address < at → StandFrom at ps → Stand (placed_in line) ps → Stand (placed_in (p ∷ line)) ps
+behind_first p line [] at before stands found = tt
+behind_first p line (q ∷ ps) at before stands found = (
+  placed_later p line q.address (λ same. absurd (omega (arith, same, before, stands.0))) ∙ found.0,
+  behind_first p line ps (at + q.length) (omega (arith, before)) stands.2 found.1,
+)
+
+pub line_stands : (at : ℕ) (line : List Placed) → StandFrom at line → Stand (placed_in line) line
+line_stands at [] stands = tt
+line_stands at (p ∷ ps) stands =
+    (placed_first p ps, behind_first p ps ps (at + p.length) (omega (arith, stands.0, stands.1)) stands.2 (line_stands (at + p.length) ps stands.2))
+
+-- what holds of all instructions of a line holds of the one that is found at an address
+pub found_holds : (P : Placed → Type 0) (line : List Placed) (n : ℕ) (p : Placed) → AllByRecursion P line → placed_in line n ≡ Some p → P p
+found_holds P [] n p all found = absurd (none found)
+  where
+    none : {q : Placed} → None ≡ Some q → ⊥
+    none e = absurd cc
+found_holds P (q ∷ ps) n p all found = by_test (n == q.address) refl found (λ later. found_holds P ps n p all.1 later)
+  where
+    some_same : {x y : Placed} → Some x ≡ Some y → x ≡ y
+    some_same e = cc
+
+    by_test : (b : Bool) → (n == q.address) ≡ b → (if n == q.address then Some q else placed_in ps n) ≡ Some p → (placed_in ps n ≡ Some p → P p) → P p
+    by_test true e here rest = subst P (some_same (sym (ap (λ c. if c then Some q else placed_in ps n) e) ∙ here)) all.0
+    by_test false e here rest = rest (sym (ap (λ c. if c then Some q else placed_in ps n) e) ∙ here)
+
+-- a line has at most 4,096 instructions
+pub line_short : (code : Code) (line : List Placed) (n : ℕ) → n ≤ 4096 → AllMayStand code n line → n + length line ≤ 4096
+line_short code [] n few all = omega (arith, few)
+line_short code (p ∷ ps) n few all =
+    let rest = line_short code ps (suc n) (omega (arith, all.0.few)) all.1 in omega (arith, rest)

@@ -1,5 +1,5 @@
 -- The lines of the threads that have been looked at so far.
-use Rattle.std.proofs.Common.{◌≡◌, ◌≢◌, ℕ, zero, suc, ◌+◌, ◌<◌, ◌≤◌, max, Bool, true, false, Err, Vec, Global, List, [], ◌∷◌, ◌++◌, length, slice_get, get_or, Some, arith, refl, sym, ap, ◌∙◌, subst, inl, inr}
+use Rattle.std.proofs.Common.{◌≡◌, ◌≢◌, ℕ, zero, suc, ◌+◌, ◌<◌, ◌≤◌, max, Bool, true, false, Err, Vec, Global, List, [], ◌∷◌, ◌++◌, length, slice_get, get_or, Some, arith, refl, sym, ap, ◌∙◌, subst, inl, inr, length-append}
 use Rattle.std.specs.Prelude.{◌⊎◌, Result}
 use Rattle.std.specs.Bool.{IsTrue}
 use Rattle.line_read.specs.declared.fault.LineFault.{LineFault}
@@ -29,6 +29,7 @@ pub record AreRead (code : Code) (threads : List ℕ) (k : ℕ) (lines : List Li
   pub distinct : AreAllDistinct lines
   pub entries : AllByRecursion (IsEarlyEntry threads k) lines
   pub each : (j first : ℕ) → j < k → slice_get threads j ≡ Some first → HasLine lines first
+  pub few : length lines ≤ k
 
 -- ---- a line among others
 
@@ -83,7 +84,7 @@ two_lines P (line ∷ lines) a b all distinct (inr later) (inr further) apart = 
 -- ---- from thread to thread
 
 pub none_read : (code : Code) (threads : List ℕ) → AreRead code threads 0 []
-none_read code threads = record { built = tt; ends = tt; distinct = tt; entries = tt; each = λ j first low begins. absurd (omega (arith, low)) }
+none_read code threads = record { built = tt; ends = tt; distinct = tt; entries = tt; each = λ j first low begins. absurd (omega (arith, low)); few = omega arith }
 
 below_next : (P : ℕ → Type 0) (j k : ℕ) → j < k + 1 → (j < k → P j) → P k → P j
 below_next P j k low before last = by_order (cases_lt j k)
@@ -109,6 +110,7 @@ again_read code threads k first lines read begins has = record {
   each = λ j entry low here. below_next (λ i. slice_get threads i ≡ Some entry → HasLine lines entry) j k low
       (λ below starts. read.each j entry below starts)
       (λ starts. subst (HasLine lines) (some_same (sym begins ∙ starts)) has) here;
+  few = omega (arith, read.few);
 }
 
 -- the range of addresses of a line that was read
@@ -151,6 +153,7 @@ next_read code threads k line lines read begins built ends none off = record {
   each = λ j entry low here. below_next (λ i. slice_get threads i ≡ Some entry → HasLine (lines ++ line ∷ []) entry) j k low
       (λ below starts. has_left lines line entry (read.each j entry below starts))
       (λ starts. subst (HasLine (lines ++ line ∷ [])) (some_same (sym begins ∙ starts)) (has_last lines line)) here;
+  few = let long = length-append lines (line ∷ []) in omega (arith, read.few, long);
 }
 
 -- ---- what can be translated

@@ -1,5 +1,5 @@
 -- Straight lines: instructions that stand one behind the other in executable memory, up to the first that ends a line.
-use Rattle.std.specs.Prelude.{◌≡◌, ◌≢◌, ◌≤◌, ◌<◌, ◌^◌, ◌⊎◌, ℕ, suc, ◌+◌, ◌-◌, true, false, ◌&&◌, nat_le, nat_lt, List, [], ◌∷◌, ◌++◌, length, drop, take, replicate, slice_get, Option, Some, if◌then◌else◌}
+use Rattle.std.specs.Prelude.{◌≡◌, ◌≢◌, ◌≤◌, ◌<◌, ◌^◌, ◌⊎◌, ℕ, suc, ◌+◌, ◌-◌, true, false, ◌&&◌, nat_le, nat_lt, List, [], ◌∷◌, ◌++◌, length, drop, take, replicate, slice_get, ◌==◌, Option, Some, None, if◌then◌else◌}
 use Rattle.std.specs.List.{AllByRecursion}
 use Rattle.ev_graph.specs.Memory.{Part, has_flag}
 use Rattle.x64_syntax.specs.declared.placed.Flow.TheVariants as flow
@@ -148,3 +148,8 @@ pub record IsStraight (first : ℕ) (line : List Placed) : Type 0 where
 abbrev pub Stand : (ℕ → Option Placed) → List Placed → Type 0
 Stand placed [] = Unit {0}
 Stand placed (p ∷ ps) = (placed p.address ≡ Some p) × Stand placed ps
+
+-- the instruction of the line at an address, if there is one
+abbrev pub placed_in : List Placed → ℕ → Option Placed
+placed_in [] n = None
+placed_in (p ∷ ps) n = if n == p.address then Some p else placed_in ps n

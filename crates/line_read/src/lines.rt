@@ -1,4 +1,4 @@
-ghost use Rattle.std.specs.Prelude.{◌≡◌, ℕ, ◌↔◌, IfOk, IsTrue, List, slice_get, Some};
+ghost use Rattle.std.specs.Prelude.{◌≡◌, ◌≤◌, ℕ, length, ◌↔◌, IfOk, IsTrue, List, slice_get, Some};
 ghost use Rattle.std.specs.List.{AllByRecursion};
 ghost use Rattle.elf_read.specs.Elf.{IsProgram, parts_of};
 ghost use Rattle.line_read.specs.Line.{IsUnbuilt, code_of};
@@ -22,6 +22,7 @@ pub fn read_lines(alloc: Global, elf: &Elf) -> Result<Vec<Line>, LineFault>
     ensures apart { IfOk result (λ lines. AreAllDistinct lines.items) }
     ensures entries { IfOk result (λ lines. AllByRecursion (IsEntry elf.now.threads) lines.items) }
     ensures each { IfOk result (λ lines. (k first : ℕ) → slice_get elf.now.threads k ≡ Some first → HasLine lines.items first) }
+    ensures few { IfOk result (λ lines. length lines.items ≤ length elf.now.threads) }
     ensures sound { IfOk result (λ lines. (address : ℕ) → IsUnbuilt (code_of elf.now) elf.now.threads address → ⊥) }
     ensures unbuilt { (address : ℕ) → result ≡ Err (UnbuiltCode address) → IsUnbuilt (code_of elf.now) elf.now.threads address }
 {

@@ -87,3 +87,8 @@ returns-clause-sound c =
     let same = ap length c.as_slice-first-items.ensures in
     let whole : length threads ≤ c.loop-first.first-index = omega (arith, same, c.loop-first-test.false) in
     all_built (code_of c.args.elf.now) threads c.loop-first.first-index c.loop-first.lines.items whole c.loop-first.invariant
+
+pub returns-clause-few : goal.returns-clause-few
+returns-clause-few c =
+    let same = ap length c.as_slice-first-items.ensures in
+    omega (arith, c.loop-first.invariant.few, c.loop-first.auto.first-index-end, same)
