@@ -5,6 +5,7 @@ pub mod Lifted
 pub mod Fenced
 pub mod Selected
 pub mod LineUnfolds
+pub mod LineMakes
 pub mod LineCarried
 pub mod GuardedRuns
 pub mod LineTranslated
