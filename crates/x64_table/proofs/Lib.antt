@@ -1,2 +1,5 @@
-pub mod SpellingLemmas
-pub mod MachineLemmas
+mod MachineLemmas
+mod SpellingLemmas
+mod StateLemmas
+mod PermissionLemmas
+mod OperandLemmas
