@@ -1,1 +1,3 @@
-
+mod OperandLemmas
+mod PermissionLemmas
+mod StateLemmas

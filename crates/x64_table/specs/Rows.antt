@@ -79,7 +79,6 @@ half _ = width.Byte
 
 -- the acts of rows, under a permission, of an instruction at a place
 module _ (may : Permission) (place : ℕ) where
-
   -- the value of an operand: what a register holds, a number, or what is read from memory
   unfoldable pub fetches : Width → Operand → Thread → (ℕ → Row) → Row
   fetches w (operand.Reg r) t go = go (register w r t)
@@ -183,12 +182,16 @@ module _ (may : Permission) (place : ℕ) where
   unfoldable pub returns : Thread → Row
   returns t = reads may place (register width.Quad rsp t) 8 (λ v. goes (Return (popped t) v))
 
+  -- what a call does once it has written the address after it
+  unfoldable pub called : Flow → (displacement : ℕ) → Thread → Row
+  called flow.ListedIn d t = takes_in place (λ v. leaves (set width.Quad rax v t))
+  called flow.ListedOut d t = puts_out place (register width.Quad rdi t) (leaves t)
+  called _ d t = leaves (jumped d (pushed t))
+
   -- CALL writes the address after it. A call of a listed function leaves RSP as it was; then a value comes in for RAX,
   -- or that of RDI goes out.
   unfoldable pub call_row : Flow → (displacement : ℕ) → Thread → Row
-  call_row flow.ListedIn d t = writes may place (below_stack t) 8 t.at (takes_in place (λ v. leaves (set width.Quad rax v t)))
-  call_row flow.ListedOut d t = writes may place (below_stack t) 8 t.at (puts_out place (register width.Quad rdi t) (leaves t))
-  call_row _ d t = writes may place (below_stack t) 8 t.at (leaves (jumped d (pushed t)))
+  call_row f d t = writes may place (below_stack t) 8 t.at (called f d t)
 
   -- JMP; a jump to a listed function makes the input or output and then returns
   unfoldable pub jmp_row : Flow → (displacement : ℕ) → Thread → Row
