@@ -47,7 +47,7 @@ read_same (Some f) name items bytes same read = read ∙ ap Some (sym same)
 pub refused : (result : Status) (from to : List ℕ) (old new : World) (why : TranslateFault)
     → IfSome old.files (λ files. (bytes : List ℕ) × (files from ≡ Some bytes) × IsRefusedFor bytes why) → SameFiles old new
     → IsTold why old.taken old.sink_faults new.taken new.sink_faults result → Ends result from to old new
-refused result from to old new why fault same (inl (some, inl said)) = subst (λ s. Ends s from to old new) (sym said.0) (same, why, (some, fault), said.1)
+refused result from to old new why fault same (inl (some, inl said)) = subst (λ s. Ends s from to old new) (sym said.0) (same, (why, (some, fault), said.1))
 refused result from to old new why fault same (inl (some, inr none)) = subst (λ s. Ends s from to old new) (sym none.0) (none.1, inl same)
 refused result from to old new why fault same (inr none) = subst (λ s. Ends s from to old new) (sym none.0) (none.1, inl same)
 

@@ -1,5 +1,5 @@
 -- Lines that are laid one behind the other, and the threads that begin at them.
-use Rattle.std.proofs.Common.{◌≡◌, ℕ, zero, suc, ◌+◌, ◌*◌, ◌^◌, ◌<◌, ◌≤◌, List, [], ◌∷◌, ◌++◌, length, map, slice_get, Some, None, arith, refl, sym, ap, ◌∙◌, subst, inl, inr, append_assoc, length-append}
+use Rattle.std.proofs.Common.{◌≡◌, ℕ, zero, suc, ◌+◌, ◌*◌, ◌^◌, ◌<◌, ◌≤◌, List, [], ◌∷◌, ◌++◌, length, map, slice_get, get_or, Some, None, arith, refl, sym, ap, ◌∙◌, subst, inl, inr, append_assoc, length-append}
 use Rattle.std.specs.Prelude.{◌⊎◌}
 use Rattle.std.specs.List.{AllByRecursion}
 use Rattle.ev_graph.specs.Memory.{Part}
@@ -106,3 +106,41 @@ begin_append code laid (u ∷ us) (f ∷ fs) t e begin one = (begin.0, begin_app
 
 pub begin_more : (code : ℕ) (laid : List LaidLine) (threads entries : List ℕ) (t e : ℕ) → BeginLaid code laid threads entries → IsLaidAt code laid t e → BeginLaid code laid (threads ++ t ∷ []) (entries ++ e ∷ [])
 begin_more = begin_append
+
+-- ---- the walk that looks for a line
+
+at_left : (code : ℕ) (laid : List LaidLine) (l : LaidLine) (first at : ℕ) → IsLaidAt code laid first at → IsLaidAt code (laid ++ l ∷ []) first at
+at_left code [] l first at is = absurd is
+at_left code (k ∷ ks) l first at (inl here) = inl here
+at_left code (k ∷ ks) l first at (inr later) = inr (at_left code ks l first at later)
+
+at_last : (code : ℕ) (laid : List LaidLine) (l : LaidLine) (first at : ℕ) → l.first ≡ first → at ≡ code + 4 * l.start → IsLaidAt code (laid ++ l ∷ []) first at
+at_last code [] l first at same place = inl (same, place)
+at_last code (k ∷ ks) l first at same place = inr (at_last code ks l first at same place)
+
+has_parts : (laid : List LaidLine) (l : LaidLine) (first : ℕ) → HasLaid (laid ++ l ∷ []) first → (HasLaid laid first → ⊥) → (l.first ≡ first → ⊥) → ⊥
+has_parts [] l first (inl here) none other = other here
+has_parts [] l first (inr later) none other = later
+has_parts (k ∷ ks) l first (inl here) none other = none (inl here)
+has_parts (k ∷ ks) l first (inr later) none other = has_parts ks l first later (λ has. none (inr has)) other
+
+-- what the walk knows behind some lines
+abbrev pub Looked : (code : ℕ) → List LaidLine → (first at : ℕ) → Type 0
+Looked code laid first at = (HasLaid laid first → ⊥) ⊎ IsLaidAt code laid first at
+
+pub looked_here : (code : ℕ) (laid : List LaidLine) (l : LaidLine) (first at : ℕ) → l.first ≡ first → at ≡ code + 4 * l.start → Looked code (laid ++ l ∷ []) first at
+looked_here code laid l first at same place = inr (at_last code laid l first at same place)
+
+pub looked_on : (code : ℕ) (laid : List LaidLine) (l : LaidLine) (first at : ℕ) → (l.first ≡ first → ⊥) → Looked code laid first at → Looked code (laid ++ l ∷ []) first at
+looked_on code laid l first at other (inl none) = inl (λ has. has_parts laid l first has none other)
+looked_on code laid l first at other (inr is) = inr (at_left code laid l first at is)
+
+pub looked_found : (code : ℕ) (laid : List LaidLine) (first at : ℕ) → HasLaid laid first → Looked code laid first at → IsLaidAt code laid first at
+looked_found code laid first at has (inl none) = absurd (none has)
+looked_found code laid first at has (inr is) = is
+
+-- what holds of all holds of the one at an index
+pub all_at : {A : Type 0} (P : A → Type 0) (xs : List A) (i : ℕ) (x : A) → AllByRecursion P xs → i < length xs → x ≡ get_or xs i x → P x
+all_at P [] i x all low is = absurd (omega (arith, low))
+all_at P (y ∷ ys) zero x all low is = subst P (sym is) all.0
+all_at P (y ∷ ys) (suc i) x all low is = all_at P ys i x all.1 (omega (arith, low)) is

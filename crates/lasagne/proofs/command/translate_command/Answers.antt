@@ -7,9 +7,6 @@ returns-in-Err-TooLong g c =
     refused c.refuse.result c.args.from.now c.args.to.now _ _ _
     (longer_refused _ c.args.from.now 67108864 _ _ refl (c.in-Err-TooLong.ensures.too_long (cc))) c.in-Err-TooLong.ensures.same c.refuse.ensures
 
-pub returns-in-Err-translate : goal.returns-in-Err-translate
-returns-in-Err-translate g c = ?
-
 pub returns-in_default : goal.returns-in_default
 returns-in_default g c = (refl, inl c.in-Ok.ensures.same)
 
