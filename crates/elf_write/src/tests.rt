@@ -1,5 +1,4 @@
-ghost use Rattle.std.specs.Prelude.{◌≡◌, [], ◌∷◌, IfOk};
-ghost use Rattle.elf_read.specs.Elf.{segment_part};
+ghost use Rattle.std.specs.Prelude.{IfOk};
 ghost use Rattle.elf_write.specs.Image.{IsImage};
 
 use crate::{Image, ImageSegment, code_address, kept_segments, write_elf};
