@@ -1,5 +1,5 @@
 ghost use Rattle.std.specs.Prelude.{◌≡◌, ◌++◌, OnOk};
-ghost use Rattle.elf_format.specs.Headers.{file_header, program_header, section_header, symbol_section, string_section, identification, file_header_fields, program_header_fields, section_header_fields};
+ghost use Rattle.elf_format.specs.Headers.{file_header, program_header, section_header, symbol_section, string_section};
 
 use crate::field::{Field, push_fields};
 use std::alloc::AllocError;

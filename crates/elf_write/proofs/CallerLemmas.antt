@@ -12,7 +12,7 @@ use Rattle.ev_graph.specs.Memory.{Cell, Part, cell_in, cells_of, or_else, has_fl
 use Rattle.elf_read.specs.Elf.{IsSegment, IsApart, AreApart, IsProgram}
 use Rattle.elf_read.specs.ElfFile.{segments_of}
 use Rattle.elf_write.specs.declared.image.Image.{Image}
-use Rattle.elf_write.specs.Image.{image_part, image_parts, image_cells, EndBefore, IsCodeAddress, IsKept, IsImage, kept}
+use Rattle.elf_write.specs.Image.{image_part, image_cells, EndBefore, IsCodeAddress, IsKept, IsImage, kept}
 use Rattle.elf_write.specs.ImageFile.{offset_after}
 use Rattle.elf_write.specs.Written.{IsFileOf}
 use Rattle.elf_write.proofs.Cells.{cell_uncovered}

@@ -1,13 +1,9 @@
 -- What is kept of an input's segments.
-use Rattle.std.proofs.Common.{◌≡◌, ◌≢◌, ℕ, ◌+◌, ◌<◌, Bool, true, false, List, [], ◌∷◌, ◌++◌, length, map, drop, arith, sym, ◌∙◌, ap, refl, append_assoc, subst}
+use Rattle.std.proofs.Common.{◌≡◌, ◌≢◌, Bool, true, false, List, ◌∷◌, arith, ap}
 use Rattle.std.specs.Prelude.{◌==◌, bit_and, if◌then◌else◌}
 use Rattle.std.proofs.lemmas.Bool.Decides.{nat_tests}
-use Rattle.std.proofs.lemmas.List.{map-append}
 use Rattle.ev_graph.specs.Memory.{Part}
-use Rattle.elf_read.specs.declared.elf.Segment.{Segment}
-use Rattle.elf_read.specs.Elf.{segment_part}
-use Rattle.elf_write.specs.declared.image.ImageSegment.{ImageSegment}
-use Rattle.elf_write.specs.Image.{image_part, kept}
+use Rattle.elf_write.specs.Image.{kept}
 
 -- a segment without memory is passed over
 pub kept_empty : (parts : List Part) (part : Part) → part.size ≡ 0 → kept (part ∷ parts) ≡ kept parts

@@ -1,5 +1,5 @@
 -- The threads that an image's file says are those that it was written for.
-use Rattle.std.proofs.Common.{◌≡◌, ℕ, ◌+◌, ◌*◌, ◌/◌, ◌^◌, ◌<◌, ◌≤◌, suc, List, [], ◌∷◌, ◌++◌, length, arith, sym, ◌∙◌, ap, refl, subst, append_assoc, append-nil, length-append}
+use Rattle.std.proofs.Common.{◌≡◌, ℕ, ◌+◌, ◌*◌, ◌^◌, ◌<◌, ◌≤◌, suc, List, [], ◌∷◌, ◌++◌, length, arith, sym, ◌∙◌, ap, refl, subst, append_assoc, append-nil, length-append}
 use Rattle.std.specs.Prelude.{replicate, decimal, Some, ◌==◌, if◌then◌else◌}
 use Rattle.std.specs.List.{AllByRecursion}
 use Rattle.std.proofs.Common.{lit<}
@@ -12,7 +12,7 @@ use Rattle.elf_read.specs.Bytes.{number_at, range_at}
 use Rattle.elf_format.specs.Bytes.{padded}
 use Rattle.elf_format.specs.Headers.{file_header, section_header, symbol_section, string_section}
 use Rattle.elf_format.specs.Symbols.{symbol_table, string_table, symbol_entries, symbol_names}
-use Rattle.elf_read.specs.Fields.{e_shoff, e_shnum, sh_type, sh_offset, sh_size, sh_link, section_header_at}
+use Rattle.elf_read.specs.Fields.{e_shoff, e_shnum, sh_link, section_header_at}
 use Rattle.elf_read.specs.ElfFile.{symbol_section_from, symbol_section as found_section, section_bytes, symbols_at, strings_at, symbols_of, strings_of, symbol_count, address_of, value_from, thread_name, threads_of}
 use Rattle.elf_write.specs.ImageFile.{parts_at, end_of, program_headers, image_front, image_header, image_file, image_tables, places_of, places_from, section_names, thread_symbols}
 use Rattle.elf_format.proofs.CallerLemmas.{length-padded, rounded_up_le, length-symbol_table}

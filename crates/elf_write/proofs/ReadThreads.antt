@@ -10,7 +10,7 @@ use Rattle.std.proofs.Math.Seq.{drop-append_seam}
 use Rattle.byteorder.specs.Numbers.{little_number-reads_back}
 use Rattle.elf_format.specs.declared.symbol.Symbol.{Symbol}
 use Rattle.elf_read.specs.Bytes.{number_at}
-use Rattle.elf_read.specs.Fields.{st_name, st_info, st_shndx, st_value}
+use Rattle.elf_read.specs.Fields.{st_name, st_info, st_shndx}
 use Rattle.elf_format.specs.Fields.{spelled}
 use Rattle.elf_format.specs.Symbols.{symbol_fields, symbol_entries, symbol_names}
 use Rattle.elf_read.specs.ElfFile.{name_at, is_symbol, value_from, thread_name, threads_from, with_address}

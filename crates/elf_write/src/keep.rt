@@ -1,4 +1,4 @@
-ghost use Rattle.std.specs.Prelude.{◌≡◌, ◌≤◌, ◌^◌, ◌++◌, map, bit_and, IfOk};
+ghost use Rattle.std.specs.Prelude.{◌≡◌, ◌≤◌, ◌^◌, map, bit_and, IfOk};
 ghost use Rattle.elf_read.specs.Elf.{segment_part};
 ghost use Rattle.elf_write.specs.Image.{EndBefore, IsCodeAddress, highest_end, image_part, kept};
 

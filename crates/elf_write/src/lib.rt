@@ -14,3 +14,6 @@ mod write;
 pub use image::{Image, ImageSegment};
 pub use keep::{code_address, kept_segments};
 pub use write::write_elf;
+
+#[cfg(test)]
+mod tests;

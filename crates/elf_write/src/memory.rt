@@ -1,4 +1,4 @@
-ghost use Rattle.std.specs.Prelude.{◌≡◌, ◌+◌, ◌*◌, ◌<◌, ◌≤◌, ◌↔◌, ℕ, length, map, None, IsTrue, IfSome, IfNone, slice_index, if◌then◌else◌};
+ghost use Rattle.std.specs.Prelude.{◌≡◌, ◌+◌, ◌*◌, ◌<◌, ◌≤◌, ◌↔◌, length, map, None, IsTrue, IfSome, IfNone, slice_index, if◌then◌else◌};
 ghost use Rattle.ev_graph.specs.Memory.{cell_in, cells_of, permits, has_flag};
 ghost use Rattle.elf_write.specs.Image.{image_part, code_part, image_cells};
 

@@ -1,5 +1,5 @@
 -- How the pieces that are written come together.
-use Rattle.std.proofs.Common.{◌≡◌, ℕ, ◌+◌, List, ◌++◌, length, [], refl, ap, ◌∙◌}
+use Rattle.std.proofs.Common.{◌≡◌, ℕ, ◌+◌, List, ◌++◌, length, [], refl}
 use Rattle.elf_format.specs.declared.symbol.Symbol.{Symbol}
 use Rattle.elf_format.specs.Bytes.{padded}
 use Rattle.elf_format.specs.Symbols.{symbol_table, string_table}

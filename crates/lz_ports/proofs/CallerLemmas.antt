@@ -1,5 +1,5 @@
 -- What a caller of this crate cites, in the order in which a command meets it. What the shelf in memory holds after a `put` is said by `Stored`.
-use Rattle.std.proofs.Common.{◌≡◌, ℕ, ◌<◌, ◌≤◌, ◌^◌, ◌-◌, List, arith, sym, ◌∙◌, ap, subst}
+use Rattle.std.proofs.Common.{◌≡◌, ℕ, ◌≤◌, ◌^◌, ◌-◌, List, arith, sym, ◌∙◌, ap, subst}
 use Rattle.std.specs.Prelude.{Option, Some, None, IfSome}
 use Rattle.lz_ports.specs.Ports.{Files, Rose, IsPut, IsTorn, Told, Took, TookPart}
 

@@ -1,5 +1,4 @@
-ghost use Rattle.std.specs.Prelude.{◌≡◌, ◌≢◌, ◌≤◌, length, IfOk, OnErr, Err};
-ghost use Rattle.lz_ports.specs.Ports.{HasCause};
+ghost use Rattle.std.specs.Prelude.{◌≡◌, ◌≤◌, length, IfOk};
 
 use crate::{GetFault, PutFault, Shelf};
 use std::alloc::Global;
@@ -18,8 +17,6 @@ pub struct DiskShelf<'a, R: Files> {
 }
 
 impl<'a, R: Files> DiskShelf<'a, R> {
-    ghost use Rattle.std.specs.Prelude.{◌≡◌};
-
     /// The files that the runtime reaches.
     pub fn new(rt: &'a R) -> DiskShelf<'a, R>
         ensures { result.faults ≡ 0 }

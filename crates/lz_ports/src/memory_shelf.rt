@@ -1,4 +1,4 @@
-ghost use Rattle.std.specs.Prelude.{◌≡◌, ◌≢◌, ◌+◌, ◌<◌, [], length, Option, Some, Err, IfOk, OnOk, OnErr};
+ghost use Rattle.std.specs.Prelude.{◌≡◌, ◌≢◌, ◌+◌, ◌<◌, length, Some, Err, IfOk, OnOk, OnErr};
 ghost use Rattle.std.specs.Option.{option_copied};
 ghost use Rattle.lz_ports.specs.Memories.{Named, file_at, with_file, place_of};
 ghost use Rattle.lz_ports.specs.Calls.{IsCounted};
@@ -58,8 +58,6 @@ impl Model for MemShelf {
 }
 
 impl MemShelf {
-    ghost use Rattle.lz_ports.specs.Memories.{is_spent, is_listed, shelf_called, shelf_failed, ShelfState};
-
     /// A shelf that holds these files, and of whose calls those with the listed numbers fail; calls
     /// count from 0.
     pub fn new(alloc: Global, files: Vec<NamedFile>, failing: Vec<u64>) -> MemShelf
@@ -122,8 +120,6 @@ fn store(
 }
 
 impl MemShelf {
-    ghost use Rattle.lz_ports.specs.Memories.{ShelfState};
-
     /// Counts a call, and a fault where it is listed.
     fn begin_call(&mut self) -> Call
         ensures counted { IsCounted self.old self.new result }
@@ -141,11 +137,6 @@ impl MemShelf {
             Call::Fine
         }
     }
-}
-
-impl MemShelf {
-    ghost use Rattle.std.specs.Prelude.{◌≡◌, OnOk, OnErr, Err};
-    ghost use Rattle.lz_ports.specs.Memories.{with_file};
 
     /// Puts these bytes under a name, and counts nothing.
     fn keep(&mut self, name: &str, bytes: &[u8]) -> Result<(), PutFault>
@@ -161,8 +152,8 @@ impl MemShelf {
 }
 
 impl Shelf for MemShelf {
-    ghost use Rattle.std.specs.Prelude.{◌≡◌, ◌≤◌, ◌⊎◌, ℕ, Some, length, IfOk, IfSome, OnOk};
-    ghost use Rattle.lz_ports.specs.Ports.{Files, Rose, HasCause, IsPut, IsTorn, IsLonger, Told, Took, TookPart};
+    ghost use Rattle.std.specs.Prelude.{◌≡◌, ◌≤◌, ◌⊎◌, Some, length, IfOk, OnOk};
+    ghost use Rattle.lz_ports.specs.Ports.{Rose, HasCause, IsPut, IsTorn, IsLonger};
     ghost use Rattle.lz_ports.specs.Memories.{file_at, get_answer, after_get, IsGot, IsPutInMemory};
 
     ghost files = { λ shelf. Some (file_at shelf.files) };

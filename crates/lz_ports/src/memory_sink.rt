@@ -1,4 +1,4 @@
-ghost use Rattle.std.specs.Prelude.{◌≡◌};
+ghost use Rattle.std.specs.Prelude.{◌≡◌, []};
 ghost use Rattle.lz_ports.specs.Calls.{IsSinkCounted};
 
 use crate::calls::Call;
@@ -27,8 +27,6 @@ impl Model for MemSink {
 }
 
 impl MemSink {
-    ghost use Rattle.std.specs.Prelude.{◌≡◌, []};
-
     /// A sink that has taken nothing, and of whose calls those with the listed numbers fail; calls
     /// count from 0.
     pub fn new(alloc: Global, failing: Vec<u64>) -> MemSink
@@ -68,7 +66,7 @@ impl MemSink {
 }
 
 impl Sink for MemSink {
-    ghost use Rattle.std.specs.Prelude.{◌≡◌, Some, Err, OnOk, take, length, ◌/◌};
+    ghost use Rattle.std.specs.Prelude.{◌≡◌, Some, OnOk};
     ghost use Rattle.lz_ports.specs.Ports.{HasCause, Took, TookPart};
     ghost use Rattle.lz_ports.specs.Memories.{IsTakenInMemory};
 
