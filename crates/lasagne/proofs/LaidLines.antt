@@ -2,6 +2,7 @@
 use Rattle.std.proofs.Common.{◌≡◌, ℕ, zero, suc, ◌+◌, ◌*◌, ◌^◌, ◌<◌, ◌≤◌, List, [], ◌∷◌, ◌++◌, length, map, slice_get, get_or, Some, None, arith, refl, sym, ap, ◌∙◌, subst, inl, inr, append_assoc, length-append}
 use Rattle.std.specs.Prelude.{◌⊎◌}
 use Rattle.std.specs.List.{AllByRecursion}
+use Rattle.std.proofs.lemmas.List.{append-nil}
 use Rattle.ev_graph.specs.Memory.{Part}
 use Rattle.x64_syntax.specs.declared.placed.Placed.{Placed}
 use Rattle.line_read.specs.declared.line.Line.{Line}
@@ -56,6 +57,12 @@ read_laid code words [] (l ∷ ls) first each has = absurd has
 read_laid code words (line ∷ lines) [] first each has = absurd each
 read_laid code words (line ∷ lines) (l ∷ ls) first each (inl here) = inl (each.0.0 ∙ here)
 read_laid code words (line ∷ lines) (l ∷ ls) first each (inr later) = inr (read_laid code words lines ls first each.1 later)
+
+-- and so where the lines' words are few enough to stand in a code segment
+pub laid_of : (lines : List Line) (laid : List LaidLine) (words : List ℕ) (first : ℕ) → AreLaid lines laid words → 4 * length words < 2 ^ 62 → HasLine lines first → HasLaid laid first
+laid_of lines laid words first are few has =
+    let short : length (words ++ []) ≡ length words = ap length (append-nil words) in
+    read_laid 0 (words ++ []) lines laid first (are.carry 0 [] (omega (arith, short, few))) has
 
 -- a line that was read, with the words that carry it
 pub record LaidThere (c : Code) (code : ℕ) (words : List ℕ) (first at : ℕ) : Type 0 where

@@ -9,8 +9,8 @@ mod image;
 mod laid;
 mod plan;
 mod summary;
-
-
+#[cfg(test)]
+mod tests;
 mod texts;
 mod translation;
 mod word;

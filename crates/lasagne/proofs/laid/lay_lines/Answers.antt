@@ -19,7 +19,7 @@ loop-line-preserved c =
     let all : c.extend_from_slice.new.self.items ≡ words ++ own = search rules in
     let items : c.push.new.self.items ≡ laid ++ record { first = line.first; start = c.len-start.result } ∷ [] = search rules in
     let carries = subst (λ l. (code : ℕ) (before after : List ℕ) → code + 4 * length (before ++ (own ++ after)) < 2 ^ 63 → CarriesLine line.first l code (before ++ (own ++ after)) (code + 4 * length before)) placed c.in_ok-own.ensures.carries in
-    let laid_more = more_laid (take i lines) laid words own line (record { first = line.first; start = c.len-start.result }) c.loop-line.invariant.0 refl c.len-start.ensures carries in
+    let laid_more = more_laid (take i lines) laid words own line (record { first = line.first; start = c.len-start.result }) c.loop-line.invariant.0 refl (c.len-start.ensures ∙ c.loop-line.words.ok.0) carries in
     let size : length own ≤ 64 * length line.placed + 64 = subst (λ l. length own ≤ 64 * length l + 64) placed c.in_ok-own.ensures.size in
     let short : IsShort line = all_at IsShort lines i line c.requires.short c.loop-line-test.true c.line-item.is in
     let long = ap length all ∙ length-append words own in (
