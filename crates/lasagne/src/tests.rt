@@ -70,6 +70,7 @@ fn words(alloc: Global, texts: &[&str]) -> Result<Vec<Word>, Fail> {
 }
 
 /// What `translate a b` ends with and writes for a file, and whether it puts anything.
+#[derive(Drop)]
 struct Told {
     status: Status,
     taken: Vec<u8>,
