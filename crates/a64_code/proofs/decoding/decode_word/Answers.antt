@@ -1,0 +1,11 @@
+use Rattle.std.proofs.Common.{sym, ◌∙◌}
+use Rattle.a64_code.specs.Decoding.{a64_of}
+use Rattle.a64_code.proofs.Shapes.{shifted_read}
+use Rattle.a64_code.proofs.decoding.decode_word.Goals as goal
+
+pub returns-clause-machine : goal.returns-clause-machine
+unfolding a64_of
+returns-clause-machine c = cc
+
+pub returns-clause-spelled : goal.returns-clause-spelled
+returns-clause-spelled c = ?
