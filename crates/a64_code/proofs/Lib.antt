@@ -1,1 +1,3 @@
+pub mod RangeLemmas
 pub mod Shapes
+pub mod WordLemmas

@@ -1,6 +1,6 @@
 use Rattle.std.proofs.Common.{sym, ◌∙◌}
 use Rattle.a64_code.specs.Decoding.{a64_of}
-use Rattle.a64_code.proofs.Shapes.{shifted_read}
+use Rattle.a64_code.proofs.WordLemmas.{spelled, read}
 use Rattle.a64_code.proofs.decoding.decode_word.Goals as goal
 
 pub returns-clause-machine : goal.returns-clause-machine
@@ -8,4 +8,6 @@ unfolding a64_of
 returns-clause-machine c = cc
 
 pub returns-clause-spelled : goal.returns-clause-spelled
-returns-clause-spelled c = ?
+returns-clause-spelled c =
+    let same = returns-clause-machine c in
+    λ a. (λ e. spelled c.args.word a (sym same ∙ e), λ e. same ∙ read c.args.word a e)
