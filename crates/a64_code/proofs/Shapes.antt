@@ -14,11 +14,13 @@ use Rattle.a64_code.specs.Decoding.{form_in, register_in, size_in, distance_in, 
 
 -- ---- single fields
 
+-- a register's number has five bits
 pub five_bits : (r : XReg) → IsOperand r → r.number < 32
 five_bits r (inl h) = omega (arith, h.0)
 five_bits r (inr h) = omega (arith, h)
 
-bits_small : (x : Bool) → bits x ≤ 64
+-- a form works on 64 bits at most
+pub bits_small : (x : Bool) → bits x ≤ 64
 bits_small true = lit≤ tt
 bits_small false = lit≤ tt
 

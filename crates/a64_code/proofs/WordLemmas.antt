@@ -215,6 +215,24 @@ read w a (range, same) =
     let test : (is_encodable a && word_of a == w) ≡ true = rw (first, second) in
     ap (held_against w) here ∙ ap (λ b. if b then Some a else None) test
 
+-- a word spells one instruction at most
+pub one_spelling : (w : ℕ) (a b : A64 XReg) → IsSpelling w a → IsSpelling w b → a ≡ b
+one_spelling w a b first second =
+    let p = read w a first in
+    let q = read w b second in
+    cc
+
+-- nothing is read exactly where nothing is spelled
+pub none_read : (w : ℕ) → a64_of w ≡ None → (a : A64 XReg) → ¬ IsSpelling w a
+none_read w e a h = let p = read w a h in cc
+
+pub none_spelled : (w : ℕ) → ((a : A64 XReg) → ¬ IsSpelling w a) → a64_of w ≡ None
+none_spelled w none = by (a64_of w) refl
+  where
+    by : (o : Option (A64 XReg)) → a64_of w ≡ o → o ≡ None
+    by None e = refl
+    by (Some a) e = absurd (none a (spelled w a e))
+
 -- the word of an instruction whose operands are in range is read as the instruction
 pub a64_of-word_of : (a : A64 XReg) → IsEncodable a → a64_of (word_of a) ≡ Some a
 a64_of-word_of a range = read (word_of a) a (range, refl)

@@ -1,4 +1,4 @@
-ghost use Rattle.std.specs.Prelude.{◌≡◌, ◌↔◌, ◌+◌, ◌≤◌, ◌<◌, ◌^◌, IsTrue, Some};
+ghost use Rattle.std.specs.Prelude.{◌≡◌, ◌↔◌, ◌+◌, ◌≤◌, ◌<◌, ◌^◌, Some, None};
 ghost use Rattle.word_arith.specs.Bits.{field};
 ghost use Rattle.a64_code.specs.declared.instr.XReg.{XReg};
 ghost use Rattle.a64_code.specs.declared.instr.A64.{A64};
@@ -13,9 +13,13 @@ use crate::encoding::encode;
 use crate::ranges::is_encodable;
 use crate::{A64, XReg};
 
+#[cfg(test)]
+mod tests;
+
 /// The instruction that a word spells; `None` where it spells none.
 pub fn decode_word(word: u32) -> Option<A64<XReg>>
     ensures spelled { (a : A64 XReg) → (result ≡ Some a) ↔ IsSpelling word a }
+    ensures none { (result ≡ None) ↔ ((a : A64 XReg) → ¬ IsSpelling word a) }
     ensures machine { result ≡ a64_of word }
 {
     held_against(word, candidate(word))
