@@ -1,5 +1,8 @@
-mod MachineLemmas
-mod SpellingLemmas
-mod StateLemmas
-mod PermissionLemmas
+pub mod SpellingLemmas
+pub mod MachineLemmas
+pub mod OpenLemmas
 mod OperandLemmas
+mod PermissionLemmas
+pub mod ShapeLemmas
+pub mod Shapes
+mod StateLemmas

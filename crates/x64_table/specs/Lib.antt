@@ -5,6 +5,7 @@ pub mod Answers
 pub mod View
 pub mod Operands
 pub mod Steps
+pub mod Laws
 pub mod Spelling
 pub mod Reading
 pub mod Machine
