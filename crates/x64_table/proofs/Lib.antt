@@ -5,4 +5,5 @@ mod OperandLemmas
 mod PermissionLemmas
 pub mod ShapeLemmas
 pub mod Shapes
+pub mod WantsLemmas
 mod StateLemmas

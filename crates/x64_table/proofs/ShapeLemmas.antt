@@ -219,7 +219,7 @@ abbrev OnDone : Answer → (RowItems → Next Exit → Type 0) → Type 0
 OnDone (Done made next) P = P made next
 OnDone _ P = Unit {0}
 
-positive : (size : ℕ) → 0 < 256 ^ size
+pub positive : (size : ℕ) → 0 < 256 ^ size
 positive size = one-le-pow size 256 (lit< tt)
 
 module _ (place : ℕ) where

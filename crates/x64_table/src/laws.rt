@@ -1,4 +1,4 @@
-ghost use Rattle.x64_table.specs.Laws.{RowsAreOpen, RowsMakeSlots, RowsRun, RowsRunOnly};
+ghost use Rattle.x64_table.specs.Laws.{RowsAreOpen, RowsMakeSlots, RowsRun, RowsRunOnly, RowsWant};
 
 /// What an instruction does is decided by the values that it reads and takes in.
 #[tactic(auto, using(crate::proofs::OpenLemmas::rows_open))]
@@ -22,4 +22,10 @@ pub fn rows_run()
 #[tactic(auto, using(crate::proofs::ShapeLemmas::rows_run_only_holds))]
 pub fn rows_run_only()
     ensures { RowsRunOnly }
+{}
+
+/// `row` wants a read exactly where none is given and the row makes one that is allowed, and an input exactly where
+/// none is given, the row takes one, and no read is wanted.
+pub fn rows_want()
+    ensures { RowsWant }
 {}
