@@ -1,3 +1,7 @@
+pub mod OpenLemmas
 mod OperandLemmas
 mod PermissionLemmas
+pub mod ShapeLemmas
+pub mod Shapes
+pub mod WantsLemmas
 mod StateLemmas

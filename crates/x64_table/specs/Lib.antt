@@ -5,4 +5,5 @@ pub mod Answers
 pub mod View
 pub mod Operands
 pub mod Steps
+pub mod Laws
 pub mod Machine

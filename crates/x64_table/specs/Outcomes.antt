@@ -1,6 +1,6 @@
 -- What instructions compute at a width, and the flags that they leave, by the table of effects (Intel SDM, volume 2, the pages of
 -- the instructions). A flag that the table leaves undefined is 0.
-use Rattle.std.specs.Prelude.{ℕ, ◌-◌, ◌/◌, ◌^◌, Bool, true, false, if◌then◌else◌}
+use Rattle.std.specs.Prelude.{ℕ, ◌-◌, false, if◌then◌else◌}
 use Rattle.word_arith.specs.Bits.{bit, top_bit}
 use Rattle.word_arith.specs.Masks.{ones}
 use Rattle.alu_width.specs.declared.flags.Flags.{Flags}

@@ -1,18 +1,17 @@
 -- What each x86 instruction does: its row, a tree of acts (Intel SDM, volume 2, the pages of the instructions).
-use Rattle.std.specs.Prelude.{ℕ, ◌+◌, ◌/◌, ◌%◌, ◌^◌, ◌==◌, Bool, true, false, Option, Some, None, if◌then◌else◌, Result, Ok, Err}
+use Rattle.std.specs.Prelude.{ℕ, ◌+◌, ◌%◌, ◌^◌, ◌==◌, Bool, true, false, Option, Some, None, if◌then◌else◌, Result, Ok, Err}
 use Rattle.word_arith.specs.Bits.{bit}
 use Rattle.word_arith.specs.Signed.{sign_extend}
-use Rattle.alu_width.specs.declared.flags.Flags.{Flags}
 use Rattle.alu_width.specs.declared.flags.Outcome.{Outcome}
-use Rattle.alu_width.specs.declared.operations.Product.{Product}
 use Rattle.alu_width.specs.declared.operations.Quotient.{Quotient}
 use Rattle.alu_width.specs.declared.operations.DivFault.{DivFault}
 use Rattle.alu_width.specs.Conditions.{condition}
 use Rattle.alu_width.specs.Products.{product}
 use Rattle.alu_width.specs.Quotients.{quotient}
+use Rattle.ev_graph.specs.declared.events.End.TheVariants.{Trap}
 use Rattle.ev_graph.specs.declared.events.FenceKind.TheVariants.{Mfence}
 use Rattle.ev_graph.specs.declared.events.TrapKind.TheVariants.{Divide, Invalid, BadJump}
-use Rattle.behavior.specs.Tree.{Tree, Next}
+use Rattle.behavior.specs.Tree.{Tree, Gives, Next, Goes, Stops}
 use Rattle.behavior.specs.Acts.{Permission, goes, traps, reads, writes, exchanges, fences_at, takes_in, puts_out}
 use Rattle.x64_syntax.specs.Operands.{bits}
 use Rattle.x64_syntax.specs.declared.instr.AluOp.{AluOp}
@@ -20,8 +19,6 @@ use Rattle.x64_syntax.specs.declared.instr.AluOp.TheVariants as op
 use Rattle.x64_syntax.specs.declared.instr.ShiftOp.{ShiftOp}
 use Rattle.x64_syntax.specs.declared.instr.Instr.{Instr}
 use Rattle.x64_syntax.specs.declared.instr.Instr.TheVariants as instr
-use Rattle.x64_syntax.specs.declared.operand.Cond.{Cond}
-use Rattle.x64_syntax.specs.declared.operand.Mem.{Mem}
 use Rattle.x64_syntax.specs.declared.operand.Operand.{Operand}
 use Rattle.x64_syntax.specs.declared.operand.Operand.TheVariants as operand
 use Rattle.x64_syntax.specs.declared.operand.Width.{Width}
@@ -146,14 +143,15 @@ module _ (may : Permission) (place : ℕ) where
       let p = product sign (bits w) (register w rax t) b in
       leaves (with_flags (product_flags p t.flags) (puts_double w p.low p.high t)))
 
-  -- the thread after a division that has an answer; the remainder goes to the upper half
-  abbrev pub divided : Width → Result Quotient DivFault → Thread → Row
-  divided w (Ok q) t = leaves (with_flags (quotient_flags t.flags) (puts_double w q.quotient q.remainder t))
-  divided w (Err fault) t = traps Divide
+  -- how a division leaves: where it has an answer, the remainder goes to the upper half
+  abbrev pub divided : Width → Result Quotient DivFault → Thread → Next Exit
+  divided w (Ok q) t = Goes (State (with_flags (quotient_flags t.flags) (puts_double w q.quotient q.remainder t)))
+  divided w (Err fault) t = Stops (Trap Divide)
 
   -- DIV (false) and IDIV (true) of the double word in the accumulator and its upper half
   unfoldable pub div_row : (sign : Bool) → Width → (from : Operand) → Thread → Row
-  div_row sign w from t = fetches w from t (λ d. divided w (quotient sign (bits w) (register w (upper w) t) (register w rax t) d) t)
+  div_row sign w from t =
+      fetches w from t (λ d. Gives (divided w (quotient sign (bits w) (register w (upper w) t) (register w rax t) d) t))
 
   -- IMUL with two or three operands: the low half of the product of two values
   unfoldable pub imul_row : Width → (to first second : Operand) → Thread → Row

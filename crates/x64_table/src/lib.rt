@@ -16,6 +16,7 @@ macro_rules! or_return {
 mod answer;
 mod arithmetic;
 mod control;
+mod laws;
 mod moves;
 mod products;
 mod rows;
