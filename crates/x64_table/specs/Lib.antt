@@ -5,5 +5,6 @@ pub mod Answers
 pub mod View
 pub mod Operands
 pub mod Steps
+pub mod Slots
 pub mod Laws
 pub mod Machine
