@@ -69,7 +69,11 @@ fn translate_command<H: Shelf, O: Sink>(
     let bytes = match shelf.get(alloc, from, INPUT_LIMIT) {
         Ok(bytes) => bytes,
         Err(GetFault::Failed) => return Status::ReadFailed,
-        Err(GetFault::TooLong) => return refuse(alloc, out, TranslateFault::File(FileFault::TooLong)),
+        Err(GetFault::TooLong) => return refuse(
+            alloc,
+            out,
+            TranslateFault::File(FileFault::TooLong),
+        ),
         Err(GetFault::NoMemory) => return Status::NoMemory,
     };
     let made = match translate(alloc, &bytes) {

@@ -5,7 +5,7 @@ ghost use Rattle.elf_write.specs.Image.{IsImage};
 ghost use Rattle.line_read.specs.Lines.{IsStraightLine, HasLine};
 ghost use Rattle.lasagne.specs.Laid.{IsShort, IsLineImage};
 
-use crate::laid::{lay_lines, laid_threads};
+use crate::laid::{laid_threads, lay_lines};
 use elf_read::Elf;
 use elf_write::{Image, code_address, kept_segments};
 use ev_graph::{List, NoMemory};

@@ -40,7 +40,10 @@ fn file_of(alloc: Global, code: &[u8], listed: &[(&str, u64)]) -> Result<Vec<u8>
             address: *address,
         })?;
     }
-    if code.len() > 0x1000 || symbols.len() > 40 || listed.iter().any(|symbol| symbol.0.len() > 32) {
+    if code.len() > 0x1000
+        || symbols.len() > 40
+        || listed.iter().any(|symbol| symbol.0.len() > 32)
+    {
         return Err("too much for a test".into());
     }
     Ok(build(alloc, code, &[0; 64], 0x404000, &symbols)?)
@@ -80,7 +83,12 @@ struct Told {
 fn translated(alloc: Global, bytes: Vec<u8>) -> Result<Told, Fail> {
     let mut shelf = shelf_with(alloc, bytes, &[])?;
     let mut out = MemSink::new(alloc, Vec::new(alloc));
-    let status = run(alloc, &words(alloc, &["translate", "a", "b"])?, &mut shelf, &mut out);
+    let status = run(
+        alloc,
+        &words(alloc, &["translate", "a", "b"])?,
+        &mut shelf,
+        &mut out,
+    );
     Ok(Told {
         status,
         taken: Vec::from_slice(alloc, out.taken())?,
@@ -93,7 +101,12 @@ fn least_file_is_translated(rt: HostRuntime) -> Result<(), Fail> {
     let alloc = rt.alloc();
     let mut shelf = shelf_with(alloc, least_file(alloc)?, &[])?;
     let mut out = MemSink::new(alloc, Vec::new(alloc));
-    let status = run(alloc, &words(alloc, &["translate", "a", "b"])?, &mut shelf, &mut out);
+    let status = run(
+        alloc,
+        &words(alloc, &["translate", "a", "b"])?,
+        &mut shelf,
+        &mut out,
+    );
     assert_eq!(rt; status, Status::Done);
     assert_eq!(rt; out.taken(), LEAST_LINE);
     let image = shelf.look("b").ok_or("no image")?;
@@ -108,11 +121,13 @@ fn least_file_is_translated(rt: HostRuntime) -> Result<(), Fail> {
 }
 
 /// Store buffering: two threads that each write one cell and read the other's.
-const STORE_BUFFERING: &[u8] = b"\xBF\0\x40\x40\0\xBE\x08\x40\x40\0\xB8\x01\0\0\0\x48\x89\x07\x48\x8B\x06\xC3\
+const STORE_BUFFERING: &[u8] =
+    b"\xBF\0\x40\x40\0\xBE\x08\x40\x40\0\xB8\x01\0\0\0\x48\x89\x07\x48\x8B\x06\xC3\
     \xBF\x08\x40\x40\0\xBE\0\x40\x40\0\xB8\x01\0\0\0\x48\x89\x07\x48\x8B\x06\xC3";
 
 /// The same with `mfence` before each read.
-const FENCED: &[u8] = b"\xBF\0\x40\x40\0\xBE\x08\x40\x40\0\xB8\x01\0\0\0\x48\x89\x07\x0F\xAE\xF0\x48\x8B\x06\xC3\
+const FENCED: &[u8] =
+    b"\xBF\0\x40\x40\0\xBE\x08\x40\x40\0\xB8\x01\0\0\0\x48\x89\x07\x0F\xAE\xF0\x48\x8B\x06\xC3\
     \xBF\x08\x40\x40\0\xBE\0\x40\x40\0\xB8\x01\0\0\0\x48\x89\x07\x0F\xAE\xF0\x48\x8B\x06\xC3";
 
 #[test]
@@ -147,8 +162,22 @@ fn lines_are_translated(rt: HostRuntime) -> Result<(), Fail> {
 fn threads_share_an_address(rt: HostRuntime) -> Result<(), Fail> {
     let alloc = rt.alloc();
     let names = [
-        "thread_0", "thread_1", "thread_2", "thread_3", "thread_4", "thread_5", "thread_6", "thread_7",
-        "thread_8", "thread_9", "thread_10", "thread_11", "thread_12", "thread_13", "thread_14", "thread_15",
+        "thread_0",
+        "thread_1",
+        "thread_2",
+        "thread_3",
+        "thread_4",
+        "thread_5",
+        "thread_6",
+        "thread_7",
+        "thread_8",
+        "thread_9",
+        "thread_10",
+        "thread_11",
+        "thread_12",
+        "thread_13",
+        "thread_14",
+        "thread_15",
     ];
     let mut listed = Vec::new(alloc);
     for name in names {
@@ -169,7 +198,11 @@ fn other_files_are_refused(rt: HostRuntime) -> Result<(), Fail> {
     let one: &[(&str, u64)] = &[("thread_0", 0x401000)];
     let cases: [(&[u8], &[(&str, u64)], &[u8]); 8] = [
         (b"\xFF\xE0", one, b"refused UnbuiltCode 401000\n"),
-        (b"\x48\x89\xD1\x90\xC3", one, b"refused UnbuiltCode 401003\n"),
+        (
+            b"\x48\x89\xD1\x90\xC3",
+            one,
+            b"refused UnbuiltCode 401003\n",
+        ),
         (b"\x48\x89\xD1", one, b"refused UnbuiltCode 401003\n"),
         (b"\xBF\0\x40\x40", one, b"refused UnbuiltCode 401000\n"),
         // the second thread begins within the first instruction of the first, and its line meets the first's
@@ -178,9 +211,17 @@ fn other_files_are_refused(rt: HostRuntime) -> Result<(), Fail> {
             &[("thread_0", 0x401000), ("thread_1", 0x401002)],
             b"refused UnbuiltCode 401002\n",
         ),
-        (b"\xC3", &[("thread_0", 0x401000), ("lsg_input", 0x401000)], b"refused UnbuiltCode 401000\n"),
+        (
+            b"\xC3",
+            &[("thread_0", 0x401000), ("lsg_input", 0x401000)],
+            b"refused UnbuiltCode 401000\n",
+        ),
         (b"\xC3", &[("thread_1", 0x401000)], b"refused NoThread\n"),
-        (b"\xC3", &[("thread_0", 0x401000), ("thread_0", 0x401000)], b"refused DoubleName 2\n"),
+        (
+            b"\xC3",
+            &[("thread_0", 0x401000), ("thread_0", 0x401000)],
+            b"refused DoubleName 2\n",
+        ),
     ];
     for (code, listed, line) in cases {
         let told = translated(alloc, file_of(alloc, code, listed)?)?;
@@ -210,7 +251,11 @@ fn cut_files_are_refused(rt: HostRuntime) -> Result<(), Fail> {
     for length in 0..=whole.len() {
         let cut = Vec::from_slice(alloc, whole.get(..length).unwrap_or(&[]))?;
         let told = translated(alloc, cut)?;
-        assert_eq!(rt; told.taken.as_slice(), told_of_cut(length), "of {length} bytes");
+        assert_eq!(rt;
+            told.taken.as_slice(),
+            told_of_cut(length),
+            "of {length} bytes"
+        );
         assert_eq!(rt; told.put, length == 16_576);
     }
     Ok(())
@@ -226,7 +271,11 @@ fn changed_fields_are_refused(rt: HostRuntime) -> Result<(), Fail> {
         (18, b"\xB7", b"refused Machine 183\n"),
         (56, b"\x41", b"refused ProgramTable\n"),
         (120, b"\x03", b"refused ProgramTable\n"),
-        (128, b"\xFF\xFF\xFF\xFF\xFF\xFF\xFF\xFF", b"refused Segment 1\n"),
+        (
+            128,
+            b"\xFF\xFF\xFF\xFF\xFF\xFF\xFF\xFF",
+            b"refused Segment 1\n",
+        ),
         (124, b"\x03", b"refused Segment 1\n"),
         (136, b"\0\0\0\0\0\x40\0\0", b"refused Segment 1\n"),
         (160, b"\0\0\0\x10\0\0\0\0", b"refused TooBig\n"),
@@ -278,7 +327,12 @@ fn failing_calls_are_told(rt: HostRuntime) -> Result<(), Fail> {
     ] {
         let mut shelf = shelf_with(alloc, least_file(alloc)?, &[shelf_call])?;
         let mut out = MemSink::new(alloc, Vec::from_slice(alloc, &[sink_call])?);
-        let status = run(alloc, &words(alloc, &["translate", "a", "b"])?, &mut shelf, &mut out);
+        let status = run(
+            alloc,
+            &words(alloc, &["translate", "a", "b"])?,
+            &mut shelf,
+            &mut out,
+        );
         assert_eq!(rt; status, wanted);
         assert_eq!(rt; shelf.look("b").map_or(0, |image| image.len()), kept);
         assert_eq!(rt; out.taken().len(), taken);

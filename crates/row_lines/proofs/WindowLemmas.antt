@@ -24,6 +24,7 @@ only_there writable write n here = in_range (by (nat_le 0x20000000 n && nat_lt n
     by true write here = refl
     by false true here = absurd cc
     by false false here = absurd cc
+
     in_range : (nat_le 0x20000000 n && nat_lt n 0x20000040) ≡ true → (0x20000000 ≤ n) × (n < 0x20000040)
     in_range test = (grind (arith, nat_tests), grind (arith, nat_tests))
 

@@ -7,10 +7,9 @@ mod case;
 mod step;
 mod window;
 
+use case::Case;
 use std::io;
 use std::io::Read;
-
-use case::Case;
 use step::write_outcome;
 
 /// Prints a line for each line of standard input.

@@ -19,15 +19,15 @@ pub laid_threads-requires-clause-each : goal.laid_threads-requires-clause-each
 laid_threads-requires-clause-each c = λ k first at.
     subst (λ laid. HasLaid laid first) (sym c.as_slice-3.ensures)
     (laid_of c.args.lines.now c.in_ok-code.code.laid c.in_ok-code.code.words first c.in_ok-code.ensures.laid
-      (let few = c.in_ok-code.ensures.few in omega (arith, few, c.requires.few, c.requires.program.threads))
-      (c.requires.each k first (subst (λ ts. slice_get ts k ≡ Some first) c.as_slice-4.ensures at)))
+    (let few = c.in_ok-code.ensures.few in omega (arith, few, c.requires.few, c.requires.program.threads))
+    (c.requires.each k first (subst (λ ts. slice_get ts k ≡ Some first) c.as_slice-4.ensures at)))
 
 pub laid_threads-requires-clause-low : goal.laid_threads-requires-clause-low
 laid_threads-requires-clause-low c =
     subst (AllByRecursion (BeginsWithin (2 ^ 32))) (sym c.as_slice-3.ensures)
     (all_wider (BeginsWithin (length c.in_ok-code.code.words)) (BeginsWithin (2 ^ 32))
-      (λ l low. let few = c.in_ok-code.ensures.few in omega (arith, low, few, c.requires.few, c.requires.program.threads))
-      c.in_ok-code.code.laid c.in_ok-code.ensures.laid.within)
+    (λ l low. let few = c.in_ok-code.ensures.few in omega (arith, low, few, c.requires.few, c.requires.program.threads))
+    c.in_ok-code.code.laid c.in_ok-code.ensures.laid.within)
 
 pub returns-clause-image : goal.returns-clause-image
 returns-clause-image c =

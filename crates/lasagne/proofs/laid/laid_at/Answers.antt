@@ -12,11 +12,11 @@ loop-line-preserved c =
     let default : LaidLine = record { first = 0; start = 0 } in
     let more = take_more laid i default c.loop-line-test.true in
     elim c.if-line-first.branch [
-      then-line-first w ↦
+      | then-line-first w ↦
           subst (λ ls. Looked c.args.code_address ls c.args.first c.if-line-first.at) (sym more)
           (looked_here c.args.code_address (take i laid) (get_or laid i default) c.args.first c.if-line-first.at w.if-line-first.true w.at-is)
-    | else-line-first w ↦
+      | else-line-first w ↦
           subst (λ ls. Looked c.args.code_address ls c.args.first c.if-line-first.at) (sym more)
           (looked_on c.args.code_address (take i laid) (get_or laid i default) c.args.first c.if-line-first.at w.if-line-first.false
-            (subst (Looked c.args.code_address (take i laid) c.args.first) (sym w.at-is) c.loop-line.invariant))
+          (subst (Looked c.args.code_address (take i laid) c.args.first) (sym w.at-is) c.loop-line.invariant))
     ]
