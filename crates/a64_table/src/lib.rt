@@ -4,3 +4,8 @@
 #![tactic(auto)]
 
 pub mod narrow;
+mod rows;
+mod state;
+
+pub use rows::{ANext, ARow, FenceChoice};
+pub use state::{A64State, Done, Nzcv};
