@@ -101,7 +101,10 @@ with_result (Some r) v regs = slice_set regs r.number v
 abbrev pub next_state : Option XReg → Done → A64State → A64State
 next_state result d s = record {
   regs = with_result result d.value s.regs;
-  n = d.nzcv.n; z = d.nzcv.z; c = d.nzcv.c; v = d.nzcv.v;
+  n = d.nzcv.n;
+  z = d.nzcv.z;
+  c = d.nzcv.c;
+  v = d.nzcv.v;
   at = moved s.at d.distance;
 }
 
@@ -110,13 +113,20 @@ abbrev pub next_of : Option XReg → A64State → Next Done → ANext
 next_of result s (Goes d) = nexts.State (next_state result d s)
 next_of result s (Stops end) = nexts.End end
 
+-- the answer of a row that makes these items and this fence and goes on
+abbrev pub row_done : RowItems → FenceChoice → Option XReg → Done → A64State → ARow
+row_done made fence result d s = rows.Done made fence (nexts.State (next_state result d s))
+
 -- an answer of a row's tree as `row` gives it
 abbrev pub told : Option XReg → A64State → Answer Done → ARow
 told result s (NeedsRead w) = rows.WantsRead w
 told result s NeedsInput = rows.WantsInput
 told result s (Makes made next) = rows.Done (row_items made) (fence_choice made) (next_of result s next)
 
+-- what `row` answers for a tree, on given values
+abbrev pub shown : Option XReg → A64State → Tree (Next Done) → (read input : Option ℕ) → ARow
+shown result s t read input = told result s (answered t read input [])
+
 -- what `row` answers for a word in a state, with these permissions and given values
 abbrev pub row_answer : A64 XReg → A64State → Permission → (read input : Option ℕ) → ARow
-row_answer w s may read input =
-    told (a64_result xregs w) s (answered (a64_row xregs may s.at w (value xregs (held s)) (held s).nzcv) read input [])
+row_answer w s may read input = shown (a64_result xregs w) s (a64_row xregs may s.at w (value xregs (held s)) (held s).nzcv) read input

@@ -3,9 +3,12 @@
 //! Source: Arm ARM (DDI 0487), chapter C6 (base instructions).
 #![tactic(auto)]
 
+mod acts;
 pub mod narrow;
 mod rows;
 mod state;
+mod values;
+mod words;
 
-pub use rows::{ANext, ARow, FenceChoice};
+pub use rows::{ANext, ARow, FenceChoice, row};
 pub use state::{A64State, Done, Nzcv};
