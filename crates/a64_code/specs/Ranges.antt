@@ -1,5 +1,5 @@
 -- The operands that an instruction's word has room for, and those that are used (Arm ARM, chapter C6).
-use Rattle.std.specs.Prelude.{◌≡◌, ◌≢◌, ℕ, ◌*◌, ◌/◌, ◌^◌, ◌<◌, ◌≤◌, ◌⊎◌, Bool, true, false, ℤ, pos, neg_ℤ, ◌≤ℤ◌, ◌<ℤ◌}
+use Rattle.std.specs.Prelude.{◌≡◌, ◌≢◌, ℕ, ◌-◌, ◌/◌, ◌^◌, ◌<◌, ◌≤◌, ◌⊎◌, Bool, true, false, ℤ, pos, neg_ℤ, ◌≤ℤ◌, ◌<ℤ◌}
 use Rattle.a64_code.specs.declared.instr.XReg.{XReg}
 use Rattle.a64_code.specs.declared.instr.A64.{A64}
 use Rattle.a64_code.specs.declared.instr.A64.TheVariants.{Add, Sub, Subs, And, Orr, Eor, AddImm, SubImm, Movz, Movk, Movn, Lslv, Lsrv, Asrv, Rorv, Udiv, Sdiv, Madd, Msub, Smulh, Umulh, Ubfm, Sbfm, Csel, Csinc, B, BCond, Cbz, Cbnz, Ldr, Str, Cas, Swp, Ldadd, Ldclr, Ldeor, Ldset, DmbFull, DmbLd, DmbSt, Nop, Brk, Svc}
@@ -33,9 +33,9 @@ IsQuarter x value quarter = (value < 2 ^ 16) × (quarter < bits x / 16)
 abbrev pub IsCondition : ℕ → Type 0
 IsCondition condition = condition < 14
 
--- a number of so many bits in two's complement, one of which is its sign
-abbrev pub IsDistance : (size : ℕ) → ℤ → Type 0
-IsDistance size distance = (neg_ℤ (pos (2 ^ size)) ≤ℤ distance) × (distance <ℤ pos (2 ^ size))
+-- a number of so many bits in two's complement
+abbrev pub IsDistance : (width : ℕ) → ℤ → Type 0
+IsDistance width distance = (neg_ℤ (pos (2 ^ (width - 1))) ≤ℤ distance) × (distance <ℤ pos (2 ^ (width - 1)))
 
 -- The operands are in range. The zero register is allowed as Rm, as Rn of those that work on registers alone, as Rd of
 -- SUBS and as Rt of a store, and nowhere else.
@@ -65,10 +65,10 @@ IsEncodable (Ubfm x d n immr imms) = IsRegister d × IsRegister n × (immr < bit
 IsEncodable (Sbfm x d n immr imms) = IsRegister d × IsRegister n × (immr < bits x) × (imms < bits x)
 IsEncodable (Csel x d n m condition) = IsRegister d × IsOperand n × IsOperand m × IsCondition condition
 IsEncodable (Csinc x d n m condition) = IsRegister d × IsOperand n × IsOperand m × IsCondition condition
-IsEncodable (B distance) = IsDistance 25 distance
-IsEncodable (BCond condition distance) = IsCondition condition × IsDistance 18 distance
-IsEncodable (Cbz x t distance) = IsRegister t × IsDistance 18 distance
-IsEncodable (Cbnz x t distance) = IsRegister t × IsDistance 18 distance
+IsEncodable (B distance) = IsDistance 26 distance
+IsEncodable (BCond condition distance) = IsCondition condition × IsDistance 19 distance
+IsEncodable (Cbz x t distance) = IsRegister t × IsDistance 19 distance
+IsEncodable (Cbnz x t distance) = IsRegister t × IsDistance 19 distance
 IsEncodable (Ldr size t n number) = IsSize size × IsRegister t × IsRegister n × (number < 2 ^ 12)
 IsEncodable (Str size t n number) = IsSize size × IsOperand t × IsRegister n × (number < 2 ^ 12)
 IsEncodable (Cas size s t n) = IsSize size × IsRegister s × IsRegister t × IsRegister n

@@ -3,6 +3,11 @@
 //! Source: Arm ARM (DDI 0487), chapters C4 (encodings) and C6 (base instructions).
 #![tactic(auto)]
 
+mod decoding;
+mod encoding;
 mod instr;
+mod ranges;
 
+pub use decoding::decode_word;
+pub use encoding::encode;
 pub use instr::{A64, XReg};

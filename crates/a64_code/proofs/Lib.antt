@@ -1,0 +1,4 @@
+pub mod RangeLemmas
+pub mod Shapes
+pub mod WordLemmas
+pub mod CallerLemmas
