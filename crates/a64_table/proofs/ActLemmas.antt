@@ -9,9 +9,9 @@ use Rattle.a64_code.specs.declared.instr.A64.TheVariants.{Cas, Swp, Ldadd, Ldclr
 use Rattle.a64_table.specs.declared.state.A64State.{A64State}
 use Rattle.a64_table.specs.declared.state.Done.{Done}
 use Rattle.a64_table.specs.declared.rows.ARow.{ARow}
-use Rattle.a64_table.specs.WordState.{xregs, value, held}
-use Rattle.a64_table.specs.WordRows.{gets, a64_written, a64_act, a64_result}
-use Rattle.a64_table.specs.WordAnswers.{shown}
+use Rattle.a64_table.specs.State.{xregs, value, held}
+use Rattle.a64_table.specs.Rows.{gets, a64_written, a64_act, a64_result}
+use Rattle.a64_table.specs.Answers.{shown}
 
 -- the exchange of an atomic word
 abbrev pub exchange_of : A64 XReg → A64State → Permission → (n : XReg) (size : ℕ) → Tree (Next Done)

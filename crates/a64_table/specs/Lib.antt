@@ -1,8 +1,5 @@
-pub mod Words
-pub mod Decoding
+pub mod State
+pub mod Values
 pub mod Rows
+pub mod Answers
 pub mod Machine
-pub mod WordState
-pub mod WordValues
-pub mod WordRows
-pub mod WordAnswers

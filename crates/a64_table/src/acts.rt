@@ -6,9 +6,9 @@ ghost use Rattle.ev_graph.specs.Memory.{allows};
 ghost use Rattle.ev_graph.specs.declared.events.Item.TheVariants as items;
 ghost use Rattle.behavior.specs.Acts.{access, reads, writes, exchanges, fences_at, takes_in, puts_out};
 ghost use Rattle.a64_code.specs.Ranges.{bits, IsOperand, IsSize, IsEncodable};
-ghost use Rattle.a64_table.specs.WordState.{xregs, value, held};
-ghost use Rattle.a64_table.specs.WordRows.{gets, jumps, branches, compares, breaks, calls, swapped, cleared, a64_written, a64_result};
-ghost use Rattle.a64_table.specs.WordAnswers.{next_state, no_items, shown, row_done};
+ghost use Rattle.a64_table.specs.State.{xregs, value, held};
+ghost use Rattle.a64_table.specs.Rows.{gets, jumps, branches, compares, breaks, calls, swapped, cleared, a64_written, a64_result};
+ghost use Rattle.a64_table.specs.Answers.{next_state, no_items, shown, row_done};
 
 use crate::rows::{ANext, ARow, FenceChoice};
 use crate::state::{A64State, Done, Nzcv};

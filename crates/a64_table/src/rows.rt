@@ -1,9 +1,9 @@
 ghost use Rattle.std.specs.Prelude.{◌≡◌};
 ghost use Rattle.ev_graph.specs.Memory.{allows};
 ghost use Rattle.a64_code.specs.Ranges.{IsEncodable};
-ghost use Rattle.a64_table.specs.WordState.{xregs, value, held};
-ghost use Rattle.a64_table.specs.WordRows.{a64_act, a64_result};
-ghost use Rattle.a64_table.specs.WordAnswers.{shown, row_answer};
+ghost use Rattle.a64_table.specs.State.{xregs, value, held};
+ghost use Rattle.a64_table.specs.Rows.{a64_act, a64_result};
+ghost use Rattle.a64_table.specs.Answers.{shown, row_answer};
 
 use crate::acts;
 use crate::state::A64State;

@@ -1,7 +1,7 @@
 ghost use Rattle.std.specs.Prelude.{◌≡◌, Option};
 ghost use Rattle.a64_code.specs.Ranges.{IsOperand};
-ghost use Rattle.a64_table.specs.WordState.{xregs, value, held};
-ghost use Rattle.a64_table.specs.WordAnswers.{with_result, next_state, moved};
+ghost use Rattle.a64_table.specs.State.{xregs, value, held, moved};
+ghost use Rattle.a64_table.specs.Answers.{with_result, next_state};
 
 use a64_code::XReg;
 

@@ -2,8 +2,8 @@ ghost use Rattle.std.specs.Prelude.{◌≡◌, ℕ, ◌+◌, ◌-◌, ◌*◌, �
 ghost use Rattle.word_arith.specs.Width.{IsWidth};
 ghost use Rattle.word_arith.specs.ArmWords.{subs_value};
 ghost use Rattle.a64_code.specs.Ranges.{bits, IsOperand, IsEncodable, IsShift, IsQuarter};
-ghost use Rattle.a64_table.specs.WordState.{xregs, value, held};
-ghost use Rattle.a64_table.specs.WordValues.{low, shifted, even_holds, holds, subs_flags, a64_value};
+ghost use Rattle.a64_table.specs.State.{xregs, value, held};
+ghost use Rattle.a64_table.specs.Values.{low, shifted, even_holds, holds, subs_flags, a64_value};
 
 use crate::state::{A64State, Nzcv};
 use crate::words;
@@ -192,7 +192,7 @@ fn sum(x: bool, a: u64, b: u64) -> u64
 }
 
 /// Whether a condition, 0 (`EQ`) to 13 (`LE`), holds.
-#[tactic(auto, unfolding(crate::specs::WordValues::holds))]
+#[tactic(auto, unfolding(crate::specs::Values::holds))]
 pub(crate) fn holds(code: u8, flags: Nzcv) -> bool
     requires { code < 14 }
     ensures { result ≡ holds code flags }
@@ -210,7 +210,7 @@ pub(crate) fn holds(code: u8, flags: Nzcv) -> bool
 }
 
 /// The flags of a difference of words of w bits.
-#[tactic(auto, unfolding(crate::specs::WordValues::subs_flags))]
+#[tactic(auto, unfolding(crate::specs::Values::subs_flags))]
 pub(crate) fn difference_flags(w: u32, a: u64, b: u64) -> Nzcv
     requires width { IsWidth w }
     requires a_fits { a < 2 ^ w }

@@ -22,10 +22,13 @@ use Rattle.behavior.proofs.Beside.{Beside, give, spend, beside_keeps}
 use Rattle.behavior.proofs.KeepsLemmas.{keeps_then_more}
 use Rattle.behavior.proofs.Walks.{From, from-cut, from-stop, from-go, run_walk, walk_from}
 use Rattle.behavior.proofs.Blocks.{to_block}
-use Rattle.a64_table.specs.declared.narrow.XReg.{XReg}
-use Rattle.a64_table.specs.declared.narrow.A64.{A64}
-use Rattle.a64_table.specs.Words.{InRange, word_of}
-use Rattle.a64_table.specs.Rows.{xregs, low, AState, value, a64_words}
+use Rattle.a64_code.specs.declared.instr.XReg.{XReg}
+use Rattle.a64_code.specs.declared.instr.A64.{A64}
+use Rattle.a64_code.specs.Ranges.{IsEncodable}
+use Rattle.a64_code.specs.Words.{word_of}
+use Rattle.a64_table.specs.State.{xregs, AState, value}
+use Rattle.a64_table.specs.Values.{low}
+use Rattle.a64_table.specs.Rows.{a64_words}
 use Rattle.a64_table.specs.Machine.{AThread, a64_step}
 use Rattle.a64_table.proofs.MachineLemmas.{lands}
 use Rattle.straight_line.specs.declared.steps.Step.{Step}
@@ -174,7 +177,7 @@ module _ (may : Permission) (code : ℕ) (xs : List Step) (ws : List (A64 XReg))
   from_guarded (from-go path run same_items same_count) = absurd (goes_nowhere path)
 
 -- each run of the words is guarded
-pub runs_guarded : (may : Permission) (code : ℕ) (xs : List Step) (ws : List (A64 XReg)) → SelectsWords (flat_map fenced xs) ws → AllByRecursion InRange (ws ++ ending) → Forwards ws → code + 4 * length (ws ++ ending) < 2 ^ 63
+pub runs_guarded : (may : Permission) (code : ℕ) (xs : List Step) (ws : List (A64 XReg)) → SelectsWords (flat_map fenced xs) ws → AllByRecursion IsEncodable (ws ++ ending) → Forwards ws → code + 4 * length (ws ++ ending) < 2 ^ 63
     → (t : AThread) → t.at ≡ code → ((n : ℕ) → t.state.regs n < 2 ^ 64) → {is : List Item} {end : End} {n : ℕ} → Run (a64_step may code (map word_of (ws ++ ending))) t is end n → Guarded false false (lowered is)
 runs_guarded may code xs ws selects range forward below t at fit run =
     from_guarded may code xs ws selects t fit (walk_from (to_block ((target_blocks may code ws range forward below).unfolds t at) (run_walk run)))

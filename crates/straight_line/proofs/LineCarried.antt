@@ -13,11 +13,14 @@ use Rattle.behavior.proofs.KeepsLemmas.{keeps_through, keeps_wider, keeps_coarse
 use Rattle.behavior.proofs.Blocks.{Unfolds, AreBlocks, Advances, begins_advances}
 use Rattle.x64_table.specs.declared.narrow.PlacedNarrow.{PlacedNarrow}
 use Rattle.x64_table.specs.Machine.{X64, Exit, State, Return, resolve, no_sites, x64_step}
-use Rattle.a64_table.specs.declared.narrow.XReg.{XReg}
-use Rattle.a64_table.specs.declared.narrow.A64.{A64}
-use Rattle.a64_table.specs.declared.narrow.A64.TheVariants as words
-use Rattle.a64_table.specs.Words.{InRange, word_of}
-use Rattle.a64_table.specs.Rows.{xregs, low, AState, value, IsForward, a64_words}
+use Rattle.a64_code.specs.declared.instr.XReg.{XReg}
+use Rattle.a64_code.specs.declared.instr.A64.{A64}
+use Rattle.a64_code.specs.declared.instr.A64.TheVariants as words
+use Rattle.a64_code.specs.Ranges.{IsEncodable}
+use Rattle.a64_code.specs.Words.{word_of}
+use Rattle.a64_table.specs.State.{xregs, AState, value}
+use Rattle.a64_table.specs.Values.{low}
+use Rattle.a64_table.specs.Rows.{IsForward, a64_words}
 use Rattle.a64_table.specs.Machine.{AThread, a64_step}
 use Rattle.a64_table.proofs.MachineLemmas.{words-append, lands, words_unfold, words_stand}
 use Rattle.straight_line.specs.declared.steps.Step.{Step}
@@ -96,7 +99,7 @@ pub code_parts : (may : Permission) (code end : ℕ) (ws : List (A64 XReg)) (s :
     → (a64_words xregs may code ws 0 s then (λ r. a64_words xregs may (code + 4 * length ws) ending r.0 r.1 then lands end)) ≡ (a64_words xregs may code (ws ++ ending) 0 s then lands end)
 code_parts may code end ws s =
     sym (then-assoc (a64_words xregs may code ws 0 s) (λ r. a64_words xregs may (code + 4 * length ws) ending r.0 r.1) (lands end))
-    ∙ ap (λ t. t then lands end) (sym (words-append may ws ending code 0 s))
+    ∙ ap (λ t. t then lands end) (sym (words-append xregs may ws ending code 0 s))
 
 pub threads_keep : (first code : ℕ) (p : PlacedNarrow) (ps : List PlacedNarrow) (ws : List (A64 XReg)) → Passes first (p ∷ ps) ws → (may : Permission) (s : X64) (t : AThread) → Starts first code s t
     → Keeps trace 256 0 (SameNext (Starts first code)) (x64_rows may (p ∷ ps) s then resolve no_sites) (code_tree may code ws t)
@@ -122,7 +125,7 @@ source_blocks may placed first p ps straight found = record {
 abbrev pub Forwards : List (A64 XReg) → Type 0
 Forwards ws = AllByRecursion IsForward (ws ++ ending)
 
-target_unfolds : (may : Permission) (code : ℕ) (ws : List (A64 XReg)) → AllByRecursion InRange (ws ++ ending) → Forwards ws → code + 4 * length (ws ++ ending) < 2 ^ 63
+target_unfolds : (may : Permission) (code : ℕ) (ws : List (A64 XReg)) → AllByRecursion IsEncodable (ws ++ ending) → Forwards ws → code + 4 * length (ws ++ ending) < 2 ^ 63
     → (state : AState) → Unfolds (a64_step may code (map word_of (ws ++ ending))) (a64_step may code (map word_of (ws ++ ending)) (record { at = code; state = state })) (code_tree may code ws (record { at = code; state = state }))
 target_unfolds may code [] range forward low state = words_unfold may code (map word_of ending) (words.Cbz true (x 16) (pos 2)) (words.Brk 3 ∷ words.Svc 3 ∷ []) code (code + 4 * length ending) refl low forward (words_stand code ending range) state
 target_unfolds may code (w ∷ ws) range forward low state =
@@ -132,7 +135,7 @@ target_advances : (may : Permission) (code : ℕ) (ws : List (A64 XReg)) (t : AT
 target_advances may code [] t = begins_advances _
 target_advances may code (w ∷ ws) t = begins_advances _
 
-pub target_blocks : (may : Permission) (code : ℕ) (ws : List (A64 XReg)) → AllByRecursion InRange (ws ++ ending) → Forwards ws → code + 4 * length (ws ++ ending) < 2 ^ 63
+pub target_blocks : (may : Permission) (code : ℕ) (ws : List (A64 XReg)) → AllByRecursion IsEncodable (ws ++ ending) → Forwards ws → code + 4 * length (ws ++ ending) < 2 ^ 63
     → AreBlocks (a64_step may code (map word_of (ws ++ ending))) (λ (t : AThread). t.at ≡ code) (code_tree may code ws)
 target_blocks may code ws range forward low = record {
   unfolds = λ t at. subst (λ a. Unfolds (a64_step may code (map word_of (ws ++ ending))) (a64_step may code (map word_of (ws ++ ending)) (record { at = a; state = t.state })) (code_tree may code ws t)) (sym at)

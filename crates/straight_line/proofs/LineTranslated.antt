@@ -9,10 +9,12 @@ use Rattle.behavior.specs.Seen.{placed}
 use Rattle.behavior.proofs.Blocks.{blocks_forward, blocks_backward}
 use Rattle.x64_table.specs.declared.narrow.PlacedNarrow.{PlacedNarrow}
 use Rattle.x64_table.specs.Machine.{resolve, no_sites, x64_step}
-use Rattle.a64_table.specs.declared.narrow.XReg.{XReg}
-use Rattle.a64_table.specs.declared.narrow.A64.{A64}
-use Rattle.a64_table.specs.Words.{InRange, word_of}
-use Rattle.a64_table.specs.Rows.{low, IsForward}
+use Rattle.a64_code.specs.declared.instr.XReg.{XReg}
+use Rattle.a64_code.specs.declared.instr.A64.{A64}
+use Rattle.a64_code.specs.Ranges.{IsEncodable}
+use Rattle.a64_code.specs.Words.{word_of}
+use Rattle.a64_table.specs.Values.{low}
+use Rattle.a64_table.specs.Rows.{IsForward}
 use Rattle.a64_table.specs.Machine.{a64_step}
 use Rattle.straight_line.specs.declared.steps.Step.{Step}
 use Rattle.straight_line.specs.Line.{IsStraight, x64_rows}
@@ -23,7 +25,7 @@ use Rattle.straight_line.proofs.LineCarried.{Passes, code_tree, Forwards, thread
 use Rattle.straight_line.proofs.GuardedRuns.{runs_guarded}
 
 carries_cons : (first code : ℕ) (p : PlacedNarrow) (ps : List PlacedNarrow) (ws : List (A64 XReg)) → IsStraight first (p ∷ ps) → Passes first (p ∷ ps) ws → (steps : List Step) → SelectsWords (flat_map fenced steps) ws
-    → AllByRecursion InRange (ws ++ ending) → Forwards ws → code + 4 * length (ws ++ ending) < 2 ^ 63 → CarriesLine first (p ∷ ps) code (map word_of (ws ++ ending))
+    → AllByRecursion IsEncodable (ws ++ ending) → Forwards ws → code + 4 * length (ws ++ ending) < 2 ^ 63 → CarriesLine first (p ∷ ps) code (map word_of (ws ++ ending))
 carries_cons first code p ps ws straight passes steps selects range forward low = record {
   guarded = λ may t at fit made end n run. runs_guarded may code steps ws selects range forward low t at fit run;
   backward = λ may placed found s t starts. blocks_backward 256 (Starts first code) (x64_step may placed no_sites) (λ s. x64_rows may (p ∷ ps) s then resolve no_sites) (λ s. s.at ≡ first) (source_blocks may placed first p ps straight found)
@@ -33,19 +35,19 @@ carries_cons first code p ps ws straight passes steps selects range forward low 
 }
 
 carries_line : (first code : ℕ) (line : List PlacedNarrow) (ws : List (A64 XReg)) → IsStraight first line → Passes first line ws → (steps : List Step) → SelectsWords (flat_map fenced steps) ws
-    → AllByRecursion InRange (ws ++ ending) → Forwards ws → code + 4 * length (ws ++ ending) < 2 ^ 63 → CarriesLine first line code (map word_of (ws ++ ending))
+    → AllByRecursion IsEncodable (ws ++ ending) → Forwards ws → code + 4 * length (ws ++ ending) < 2 ^ 63 → CarriesLine first line code (map word_of (ws ++ ending))
 carries_line first code [] ws straight passes steps selects range forward low = absurd straight.returns
 carries_line first code (p ∷ ps) ws straight passes steps selects range forward low = carries_cons first code p ps ws straight passes steps selects range forward low
 
-ending_range : AllByRecursion InRange ending
-ending_range = (((omega arith, λ e. absurd (omega (arith, e))), grind (arith, ints), grind (arith, ints)), ((omega arith, omega arith), ((omega arith, omega arith), tt)))
+ending_range : AllByRecursion IsEncodable ending
+ending_range = (((omega arith, λ e. absurd (omega (arith, e))), (grind (arith, ints), grind (arith, ints))), ((omega arith, omega arith), ((omega arith, omega arith), tt)))
 
 -- the passes together carry the line
 pub carries : (first code : ℕ) (line : List PlacedNarrow) (steps with_fences : List Step) (ws : List (A64 XReg)) (laid : List ℕ) → IsStraight first line
-    → LiftsLine first line steps → IsFenced steps with_fences → KeepsPlaced steps with_fences → SelectsWords with_fences ws → AllByRecursion InRange ws → AllByRecursion IsForward ws
+    → LiftsLine first line steps → IsFenced steps with_fences → KeepsPlaced steps with_fences → SelectsWords with_fences ws → AllByRecursion IsEncodable ws → AllByRecursion IsForward ws
     → laid ≡ map word_of (ws ++ ending) → code + 4 * length laid < 2 ^ 63 → CarriesLine first line code laid
 carries first code line steps with_fences ws laid straight lifts placed fences selects range forward same below =
     let long : length laid ≡ length (ws ++ ending) = ap length same ∙ length-map (ws ++ ending) word_of in
     let whole = carries_line first code line ws straight (record { steps = steps; with_fences = with_fences; lifts = lifts; fences = fences; selects = selects }) steps (subst (λ l. SelectsWords l ws) placed selects)
-    (all_append InRange ws ending range ending_range) (all_append IsForward ws ending forward ((1, refl, omega arith), (tt, (tt, tt)))) (omega (arith, below, long)) in
+    (all_append IsEncodable ws ending range ending_range) (all_append IsForward ws ending forward ((1, refl, omega arith), (tt, (tt, tt)))) (omega (arith, below, long)) in
     subst (λ l. CarriesLine first line code l) (sym same) whole

@@ -6,10 +6,10 @@ use Rattle.std.specs.List.{flat_map}
 use Rattle.x64_table.specs.declared.narrow.Narrow.{Narrow}
 use Rattle.x64_table.specs.declared.narrow.Narrow.TheVariants as instrs
 use Rattle.x64_table.specs.declared.narrow.PlacedNarrow.{PlacedNarrow}
-use Rattle.a64_table.specs.declared.narrow.XReg.{XReg}
-use Rattle.a64_table.specs.declared.narrow.A64.{A64}
-use Rattle.a64_table.specs.declared.narrow.A64.TheVariants as words
-use Rattle.a64_table.specs.Words.{word_of}
+use Rattle.a64_code.specs.declared.instr.XReg.{XReg}
+use Rattle.a64_code.specs.declared.instr.A64.{A64}
+use Rattle.a64_code.specs.declared.instr.A64.TheVariants as words
+use Rattle.a64_code.specs.Words.{word_of}
 use Rattle.straight_line.specs.declared.steps.Step.{Step}
 use Rattle.straight_line.specs.declared.steps.Step.TheVariants.{Copy, Number, Load, Store, Add, ReadFence, WriteFence}
 use Rattle.straight_line.specs.Passes.{lifted_narrow, lifted, fenced, x, quarter_word, quarter_of, selected, ending}

@@ -8,10 +8,11 @@ use Rattle.x64_table.specs.declared.narrow.Narrow.{Narrow}
 use Rattle.x64_table.specs.declared.narrow.Narrow.TheVariants as instrs
 use Rattle.x64_table.specs.declared.narrow.PlacedNarrow.{PlacedNarrow}
 use Rattle.x64_table.specs.Machine.{X64, Exit, State, Return}
-use Rattle.a64_table.specs.declared.narrow.XReg.{XReg}
-use Rattle.a64_table.specs.declared.narrow.A64.{A64}
-use Rattle.a64_table.specs.declared.narrow.A64.TheVariants as words
-use Rattle.a64_table.specs.Rows.{AState, xregs, a64_words}
+use Rattle.a64_code.specs.declared.instr.XReg.{XReg}
+use Rattle.a64_code.specs.declared.instr.A64.{A64}
+use Rattle.a64_code.specs.declared.instr.A64.TheVariants as words
+use Rattle.a64_table.specs.State.{AState, xregs}
+use Rattle.a64_table.specs.Rows.{a64_words}
 use Rattle.straight_line.specs.declared.steps.Step.{Step}
 use Rattle.straight_line.specs.declared.steps.Step.TheVariants.{Copy, Number, Load, Store, Add, ReadFence, WriteFence}
 use Rattle.straight_line.specs.Line.{x64_rows}

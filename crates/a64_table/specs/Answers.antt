@@ -1,6 +1,5 @@
 -- What `row` answers: the word's tree, walked on the values that were given.
-use Rattle.std.specs.Prelude.{ℕ, ◌^◌, false, ℤ, pos, ◌+ℤ◌, ◌*ℤ◌, unsigned_abs, List, [], ◌∷◌, ◌++◌, slice_set, Option, Some, None}
-use Rattle.std.specs.Int.{int_rem_euclid}
+use Rattle.std.specs.Prelude.{ℕ, false, List, [], ◌∷◌, ◌++◌, slice_set, Option, Some, None}
 use Rattle.ev_graph.specs.declared.events.Item.{Item}
 use Rattle.ev_graph.specs.declared.events.Item.TheVariants as items
 use Rattle.ev_graph.specs.declared.events.Access.{Access}
@@ -20,8 +19,8 @@ use Rattle.a64_table.specs.declared.rows.ARow.TheVariants as rows
 use Rattle.a64_table.specs.declared.rows.FenceChoice.{FenceChoice}
 use Rattle.a64_table.specs.declared.rows.FenceChoice.TheVariants as choices
 use Rattle.a64_table.specs.declared.state.Done.{Done}
-use Rattle.a64_table.specs.WordState.{xregs, value, held}
-use Rattle.a64_table.specs.WordRows.{a64_row, a64_result}
+use Rattle.a64_table.specs.State.{xregs, value, held, moved}
+use Rattle.a64_table.specs.Rows.{a64_row, a64_result}
 
 -- what an act takes from outside: the value of a read, an input, or nothing
 pub data Need : Type 0 where
@@ -87,10 +86,6 @@ fence_choice (items.Access a ∷ is) = fence_choice is
 fence_choice (items.Fence f ∷ is) = choices.Dmb f.kind
 fence_choice (items.Input t ∷ is) = fence_choice is
 fence_choice (items.Output t ∷ is) = fence_choice is
-
--- so many words on from an address, modulo 2^64
-abbrev pub moved : ℕ → ℤ → ℕ
-moved at distance = unsigned_abs (int_rem_euclid (pos at +ℤ pos 4 *ℤ distance) (pos (2 ^ 64)))
 
 -- the registers after a value for the result register, if there is one; there is none of the number 31
 abbrev pub with_result : Option XReg → ℕ → List ℕ → List ℕ

@@ -1,5 +1,6 @@
 -- What a thread of A64 words holds: registers of some kind, by their numbers, and the flags (Arm ARM, B1.2).
-use Rattle.std.specs.Prelude.{ℕ, ◌==◌, if◌then◌else◌, slice_index, Option, Some, None}
+use Rattle.std.specs.Prelude.{ℕ, ◌^◌, ◌==◌, if◌then◌else◌, ℤ, pos, ◌+ℤ◌, ◌*ℤ◌, unsigned_abs, slice_index, Option, Some, None}
+use Rattle.std.specs.Int.{int_rem_euclid}
 use Rattle.behavior.specs.Acts.{Bank, put}
 use Rattle.a64_code.specs.declared.instr.XReg.{XReg}
 use Rattle.a64_table.specs.declared.state.Nzcv.{Nzcv}
@@ -33,3 +34,7 @@ after names (Some r) d s = record { regs = put (names.number r) d.value s.regs; 
 -- what the registers and flags of a state hold, by number
 abbrev pub held : A64State → AState
 held s = record { regs = λ n. slice_index s.regs n; nzcv = record { n = s.n; z = s.z; c = s.c; v = s.v } }
+
+-- so many words on from an address, modulo 2^64
+abbrev pub moved : ℕ → ℤ → ℕ
+moved at distance = unsigned_abs (int_rem_euclid (pos at +ℤ pos 4 *ℤ distance) (pos (2 ^ 64)))
