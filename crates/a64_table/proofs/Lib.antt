@@ -3,3 +3,4 @@ pub mod MemoryLemmas
 pub mod ActLemmas
 pub mod MachineLemmas
 pub mod BarrierLemmas
+pub mod RowLemmas

@@ -3,3 +3,4 @@ pub mod Values
 pub mod Rows
 pub mod Answers
 pub mod Machine
+pub mod Laws

@@ -4,10 +4,12 @@
 #![tactic(auto)]
 
 mod acts;
+mod laws;
 mod rows;
 mod state;
 mod values;
 mod words;
 
+pub use laws::{answers_are_paths, rows_are_open};
 pub use rows::{ANext, ARow, FenceChoice, row};
 pub use state::{A64State, Done, Nzcv};
