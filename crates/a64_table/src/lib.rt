@@ -7,6 +7,8 @@ mod acts;
 mod laws;
 mod rows;
 mod state;
+#[cfg(test)]
+mod tests;
 mod values;
 mod words;
 
