@@ -1,6 +1,6 @@
 ghost use Rattle.std.specs.Prelude.{◌≡◌, ℕ, ◌+◌, ◌-◌, ◌*◌, ◌/◌, ◌%◌, ◌^◌, ◌<◌, Bool};
 ghost use Rattle.word_arith.specs.Width.{IsWidth};
-ghost use Rattle.word_arith.specs.ArmWords.{subs_value};
+ghost use Rattle.word_arith.specs.ArmWords.{subs_value, bitfield_move};
 ghost use Rattle.a64_code.specs.Ranges.{bits, IsOperand, IsEncodable, IsShift, IsQuarter};
 ghost use Rattle.a64_table.specs.State.{xregs, value, held};
 ghost use Rattle.a64_table.specs.Values.{low, shifted, even_holds, holds, subs_flags, a64_value};
@@ -56,41 +56,17 @@ pub(crate) fn computed(instr: A64<XReg>, state: &A64State) -> Option<u64>
             words::signed_quotient(bits(x), cut(x, state, n), cut(x, state, m))
         }
         A64::Madd(x, _, n, m, a) => {
-            words::product_added(
-                bits(x),
-                cut(x, state, a),
-                cut(x, state, n),
-                cut(x, state, m),
-            )
+            let (n, m) = (cut(x, state, n), cut(x, state, m));
+            words::product_added(bits(x), cut(x, state, a), n, m)
         }
         A64::Msub(x, _, n, m, a) => {
-            words::product_taken(
-                bits(x),
-                cut(x, state, a),
-                cut(x, state, n),
-                cut(x, state, m),
-            )
+            let (n, m) = (cut(x, state, n), cut(x, state, m));
+            words::product_taken(bits(x), cut(x, state, a), n, m)
         }
         A64::Smulh(_, n, m) => words::signed_upper_product(state.value(n), state.value(m)),
         A64::Umulh(_, n, m) => words::upper_product(state.value(n), state.value(m)),
-        A64::Ubfm(x, _, n, immr, imms) => {
-            words::bits_moved(
-                false,
-                bits(x),
-                u32::from(immr),
-                u32::from(imms),
-                cut(x, state, n),
-            )
-        }
-        A64::Sbfm(x, _, n, immr, imms) => {
-            words::bits_moved(
-                true,
-                bits(x),
-                u32::from(immr),
-                u32::from(imms),
-                cut(x, state, n),
-            )
-        }
+        A64::Ubfm(x, _, n, immr, imms) => moved(false, x, cut(x, state, n), immr, imms),
+        A64::Sbfm(x, _, n, immr, imms) => moved(true, x, cut(x, state, n), immr, imms),
         A64::Csel(x, _, n, m, code) => {
             if holds(code, state.nzcv()) {
                 cut(x, state, n)
@@ -144,6 +120,16 @@ pub(crate) fn second(x: bool, state: &A64State, r: XReg, kind: u8, amount: u8) -
     ensures fits { result < 2 ^ bits x }
 {
     shifted(x, kind, amount, state.value(r))
+}
+
+/// Bits of a form moved down or up, extended by zeros or by the sign.
+fn moved(sign: bool, x: bool, v: u64, immr: u8, imms: u8) -> u64
+    requires v_fits { v < 2 ^ bits x }
+    requires immr_fits { immr < bits x }
+    requires imms_fits { imms < bits x }
+    ensures { result ≡ bitfield_move sign (bits x) immr imms v }
+{
+    words::bits_moved(sign, bits(x), u32::from(immr), u32::from(imms), v)
 }
 
 /// 16 bits in a quarter of a word.
