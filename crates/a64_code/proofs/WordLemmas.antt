@@ -1,10 +1,8 @@
 -- A word spells exactly the instruction that is read from it.
-use Rattle.std.proofs.Common.{◌≡◌, ℕ, ◌+◌, ◌*◌, ◌/◌, ◌%◌, ◌^◌, ◌<◌, ◌≤◌, ◌==◌, ◌&&◌, Bool, true, false, zero, suc, inl, inr, Option, Some, None, refl, sym, ap, ◌∙◌, subst, arith, lit<}
+use Rattle.std.proofs.Common.{◌≡◌, ℕ, ◌+◌, ◌*◌, ◌^◌, ◌<◌, ◌==◌, ◌&&◌, Bool, true, false, zero, suc, inl, Option, Some, None, refl, sym, ap, ◌∙◌, subst, arith, lit<}
 use Rattle.std.specs.Prelude.{if◌then◌else◌, ℤ}
-use Rattle.std.specs.Bool.{Decides}
 use Rattle.std.proofs.lemmas.Bool.{eqb-true, eq-eqb}
 use Rattle.word_arith.specs.Bits.{bit, field}
-use Rattle.word_arith.specs.Signed.{low_bits}
 use Rattle.word_arith.proofs.CallerLemmas.{low_bits_below}
 use Rattle.a64_code.specs.declared.instr.XReg.{XReg}
 use Rattle.a64_code.specs.declared.instr.A64.{A64}
@@ -12,7 +10,7 @@ use Rattle.a64_code.specs.declared.instr.A64.TheVariants.{Add, Sub, Subs, And, O
 use Rattle.a64_code.specs.Ranges.{IsEncodable, IsDistance}
 use Rattle.a64_code.specs.Words.{word_of, IsSpelling}
 use Rattle.a64_code.specs.Tests.{is_encodable}
-use Rattle.a64_code.specs.Decoding.{by_class, candidate, held_against, a64_of, distance_in, compare, branch, tested, exception}
+use Rattle.a64_code.specs.Decoding.{by_class, candidate, held_against, a64_of, compare, branch}
 use Rattle.a64_code.proofs.Shapes.{distance_read, shifted_read, immediate_read, quarter_read, moved_read, two_read, chosen_read, three_read, whole_read, tested_read, offset_read, updated_read}
 use Rattle.a64_code.proofs.RangeLemmas.{encodable_test}
 

@@ -1,12 +1,23 @@
-ghost use Rattle.std.specs.Prelude.{◌≡◌, ◌+◌, ◌*◌, ◌^◌, ◌<◌};
+ghost use Rattle.std.specs.Prelude.{◌≡◌, ◌+◌, ◌*◌, ◌^◌, ◌<◌, Some};
 ghost use Rattle.a64_code.specs.Ranges.{IsEncodable, IsDistance};
-ghost use Rattle.a64_code.specs.Words.{word_of, form, wide_field, access, rd, rn, ra, rm, shift};
+ghost use Rattle.a64_code.specs.Decoding.{a64_of};
+ghost use Rattle.a64_code.specs.Words.{IsSpelling, word_of, form, wide_field, access, rd, rn, ra, rm, shift};
 ghost use Rattle.a64_code.specs.Words.{imm12, imm16, hw, immr, imms, cond, imm19, imm26};
 
 use crate::{A64, XReg};
 
-/// The word of an instruction whose operands are in range (`IsEncodable`).
+/// The word of an instruction whose operands are in range (`IsEncodable`), which is read back as it.
 pub fn encode(a: A64<XReg>) -> u32
+    requires { IsEncodable a }
+    ensures value { result ≡ word_of a }
+    ensures spells { IsSpelling result a }
+    ensures read_back { a64_of result ≡ Some a }
+{
+    word_of(a)
+}
+
+/// The sum of the fixed bits and the fields.
+fn word_of(a: A64<XReg>) -> u32
     requires { IsEncodable a }
     ensures { result ≡ word_of a }
 {

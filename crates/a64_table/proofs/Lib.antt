@@ -4,3 +4,4 @@ pub mod ActLemmas
 pub mod MachineLemmas
 pub mod BarrierLemmas
 pub mod RowLemmas
+pub mod OperandLemmas

@@ -127,6 +127,44 @@ a64_result names (Ldset size s t n) = Some t
 a64_result names (Svc number) = if number == 1 then Some (names.register 0) else None
 a64_result names w = None
 
+-- the registers that a word reads
+abbrev pub a64_operands : {R : Type 0} → Names R → A64 R → List R
+a64_operands names (Add x d n m kind amount) = n ∷ m ∷ []
+a64_operands names (Sub x d n m kind amount) = n ∷ m ∷ []
+a64_operands names (Subs x d n m kind amount) = n ∷ m ∷ []
+a64_operands names (And x d n m kind amount) = n ∷ m ∷ []
+a64_operands names (Orr x d n m kind amount) = n ∷ m ∷ []
+a64_operands names (Eor x d n m kind amount) = n ∷ m ∷ []
+a64_operands names (AddImm x d n number) = n ∷ []
+a64_operands names (SubImm x d n number) = n ∷ []
+a64_operands names (Movk x d v quarter) = d ∷ []
+a64_operands names (Lslv x d n m) = n ∷ m ∷ []
+a64_operands names (Lsrv x d n m) = n ∷ m ∷ []
+a64_operands names (Asrv x d n m) = n ∷ m ∷ []
+a64_operands names (Rorv x d n m) = n ∷ m ∷ []
+a64_operands names (Udiv x d n m) = n ∷ m ∷ []
+a64_operands names (Sdiv x d n m) = n ∷ m ∷ []
+a64_operands names (Madd x d n m a) = n ∷ m ∷ a ∷ []
+a64_operands names (Msub x d n m a) = n ∷ m ∷ a ∷ []
+a64_operands names (Smulh d n m) = n ∷ m ∷ []
+a64_operands names (Umulh d n m) = n ∷ m ∷ []
+a64_operands names (Ubfm x d n immr imms) = n ∷ []
+a64_operands names (Sbfm x d n immr imms) = n ∷ []
+a64_operands names (Csel x d n m code) = n ∷ m ∷ []
+a64_operands names (Csinc x d n m code) = n ∷ m ∷ []
+a64_operands names (Cbz x t distance) = t ∷ []
+a64_operands names (Cbnz x t distance) = t ∷ []
+a64_operands names (Ldr size t n number) = n ∷ []
+a64_operands names (Str size t n number) = t ∷ n ∷ []
+a64_operands names (Cas size s t n) = s ∷ t ∷ n ∷ []
+a64_operands names (Swp size s t n) = s ∷ n ∷ []
+a64_operands names (Ldadd size s t n) = s ∷ n ∷ []
+a64_operands names (Ldclr size s t n) = s ∷ n ∷ []
+a64_operands names (Ldeor size s t n) = s ∷ n ∷ []
+a64_operands names (Ldset size s t n) = s ∷ n ∷ []
+a64_operands names (Svc number) = names.register 7 ∷ []
+a64_operands names w = []
+
 -- how many words a distance forward leaves out
 abbrev pub ahead : ℤ → ℕ
 ahead distance = unsigned_abs distance - 1
