@@ -1,5 +1,5 @@
 -- Words in two parts, and the machine that takes the words of a code segment one behind the other.
-use Rattle.std.proofs.Common.{◌≡◌, ℕ, zero, suc, ◌+◌, ◌-◌, ◌*◌, ◌/◌, ◌%◌, ◌^◌, ◌<◌, ◌==◌, ◌&&◌, true, false, List, [], ◌∷◌, ◌++◌, map, length, Option, Some, None, refl, sym, ap, ◌∙◌, subst, arith, append_assoc, length-append}
+use Rattle.std.proofs.Common.{◌≡◌, ℕ, Bool, not, zero, suc, ◌+◌, ◌-◌, ◌*◌, ◌/◌, ◌%◌, ◌^◌, ◌<◌, ◌==◌, ◌&&◌, true, false, List, [], ◌∷◌, ◌++◌, map, length, Option, Some, None, refl, sym, ap, ◌∙◌, subst, arith, append_assoc, length-append}
 use mathlib.Core.Path.{fun_ext}
 use Rattle.std.specs.Prelude.{if◌then◌else◌, nat_le, slice_get, ℤ, pos}
 use Rattle.std.specs.Option.{option_and_then}
@@ -9,33 +9,38 @@ use Rattle.ev_graph.specs.declared.events.TrapKind.TheVariants.{BadAccess, Divid
 use Rattle.ev_graph.specs.declared.events.End.TheVariants.{Halted}
 use Rattle.ev_graph.specs.declared.events.AccessKind.TheVariants.{Read, Write}
 use Rattle.behavior.specs.Tree.{Tree, Gives, Begins, Acts, Next, Goes, Stops, ◌then◌}
-use Rattle.behavior.specs.Acts.{Permission, goes, traps, access, makes, takes_in, puts_out}
+use Rattle.behavior.specs.Acts.{Permission, goes, traps, access, makes, locked_write, exchanges, takes_in, puts_out}
 use Rattle.behavior.proofs.Paths.{then-assoc}
 use Rattle.behavior.proofs.Blocks.{Unfolds, block-ends, block-goes, block-begins}
-use Rattle.a64_table.specs.declared.narrow.XReg.{XReg}
-use Rattle.a64_table.specs.declared.narrow.A64.{A64}
-use Rattle.a64_table.specs.declared.narrow.A64.TheVariants.{Orr, AddImm, Movz, Movk, Cbz, Ldr, Str, DmbFull, DmbLd, DmbSt, Brk, Svc}
-use Rattle.a64_table.specs.Words.{InRange, word_of}
-use Rattle.a64_table.specs.Decoding.{a64_of}
-use Rattle.a64_table.specs.Rows.{Done, xregs, low, gets, jumps, a64_row, a64_result, AState, value, after, ahead, GoesForward, IsForward, a64_words}
-use Rattle.a64_table.specs.Machine.{AThread, word_at, moved, a64_take, a64_step}
-use Rattle.a64_table.proofs.WordLemmas.{a64_of-word_of}
+use Rattle.a64_code.specs.declared.instr.XReg.{XReg}
+use Rattle.a64_code.specs.declared.instr.A64.{A64}
+use Rattle.a64_code.specs.declared.instr.A64.TheVariants.{Subs, B, BCond, Cbz, Cbnz, Ldr, Str, Cas, Swp, Ldadd, Ldclr, Ldeor, Ldset, DmbFull, DmbLd, DmbSt, Brk, Svc}
+use Rattle.a64_code.specs.Ranges.{IsEncodable}
+use Rattle.a64_code.specs.Words.{word_of}
+use Rattle.a64_code.specs.Decoding.{a64_of}
+use Rattle.a64_code.proofs.WordLemmas.{a64_of-word_of}
+use Rattle.a64_table.specs.declared.state.Nzcv.{Nzcv}
+use Rattle.a64_table.specs.declared.state.Done.{Done}
+use Rattle.a64_table.specs.State.{Names, xregs, AState, value, after, moved}
+use Rattle.a64_table.specs.Values.{low, holds, a64_value}
+use Rattle.a64_table.specs.Rows.{gets, jumps, branches, computes_or, a64_written, a64_act, a64_row, a64_result, ahead, GoesForward, IsForward, a64_words}
+use Rattle.a64_table.specs.Machine.{AThread, word_at, a64_take, a64_step}
 use Rattle.behavior.proofs.Unfolding.{AllResults, results_choice, unfolds_then}
 
 -- words, and then more words
-pub words-append : (may : Permission) (ws vs : List (A64 XReg)) (at skip : ℕ) (s : AState)
-    → a64_words xregs may at (ws ++ vs) skip s ≡ (a64_words xregs may at ws skip s then (λ r. a64_words xregs may (at + 4 * length ws) vs r.0 r.1))
-words-append may [] vs at skip s = let e : at + 4 * 0 ≡ at = omega arith in ap (λ a. a64_words xregs may a vs skip s) (sym e)
-words-append may (w ∷ ws) vs at (suc skip) s =
+pub words-append : {R : Type 0} (names : Names R) (may : Permission) (ws vs : List (A64 R)) (at skip : ℕ) (s : AState)
+    → a64_words names may at (ws ++ vs) skip s ≡ (a64_words names may at ws skip s then (λ r. a64_words names may (at + 4 * length ws) vs r.0 r.1))
+words-append names may [] vs at skip s = let e : at + 4 * 0 ≡ at = omega arith in ap (λ a. a64_words names may a vs skip s) (sym e)
+words-append names may (w ∷ ws) vs at (suc skip) s =
     let e : at + 4 + 4 * length ws ≡ at + 4 * length (w ∷ ws) = omega arith in
-    words-append may ws vs (at + 4) skip s ∙ ap (λ a. a64_words xregs may (at + 4) ws skip s then (λ r. a64_words xregs may a vs r.0 r.1)) e
-words-append may (w ∷ ws) vs at zero s =
+    words-append names may ws vs (at + 4) skip s ∙ ap (λ a. a64_words names may (at + 4) ws skip s then (λ r. a64_words names may a vs r.0 r.1)) e
+words-append names may (w ∷ ws) vs at zero s =
     let e : at + 4 + 4 * length ws ≡ at + 4 * length (w ∷ ws) = omega arith in
-    let row = Begins (a64_row xregs may at w (value xregs s) s.nzcv) in
-    let on : Done → Tree (Next (ℕ × AState)) = λ d. a64_words xregs may (at + 4) ws (ahead d.distance) (after xregs (a64_result xregs w) d s) in
-    ap (λ f. row then f) (fun_ext (λ d. words-append may ws vs (at + 4) (ahead d.distance) (after xregs (a64_result xregs w) d s)
-    ∙ ap (λ a. a64_words xregs may (at + 4) ws (ahead d.distance) (after xregs (a64_result xregs w) d s) then (λ r. a64_words xregs may a vs r.0 r.1)) e))
-    ∙ sym (then-assoc row on (λ r. a64_words xregs may (at + 4 * length (w ∷ ws)) vs r.0 r.1))
+    let row = Begins (a64_row names may at w (value names s) s.nzcv) in
+    let on : Done → Tree (Next (ℕ × AState)) = λ d. a64_words names may (at + 4) ws (ahead d.distance) (after names (a64_result names w) d s) in
+    ap (λ f. row then f) (fun_ext (λ d. words-append names may ws vs (at + 4) (ahead d.distance) (after names (a64_result names w) d s)
+    ∙ ap (λ a. a64_words names may (at + 4) ws (ahead d.distance) (after names (a64_result names w) d s) then (λ r. a64_words names may a vs r.0 r.1)) e))
+    ∙ sym (then-assoc row on (λ r. a64_words names may (at + 4 * length (w ∷ ws)) vs r.0 r.1))
 
 -- the instruction that the code has at an address
 abbrev pub instr_at : (first : ℕ) → List ℕ → ℕ → Option (A64 XReg)
@@ -52,31 +57,56 @@ DoneForward d = GoesForward d.distance
 next_word : GoesForward (pos 1)
 next_word = (0, refl, omega arith)
 
-row_forward : (may : Permission) (place : ℕ) (w : A64 XReg) (s : AState) → IsForward w → AllResults DoneForward (a64_row xregs may place w (value xregs s) s.nzcv)
-row_forward may place (Orr x d n m kind amount) s forward = next_word
-row_forward may place (AddImm x d n number) s forward = next_word
-row_forward may place (Movz x d v quarter) s forward = next_word
-row_forward may place (Movk x d v quarter) s forward = next_word
-row_forward may place (Cbz x t distance) s forward =
-    results_choice DoneForward (low x (value xregs s t) == 0) (jumps distance s.nzcv) (jumps (pos 1) s.nzcv) forward next_word
-row_forward may place (Ldr size t n number) s forward =
-    results_choice DoneForward (may false ((value xregs s n + number * size) % 2 ^ 64) size)
-    (Acts (256 ^ size) (λ v. access Read false place ((value xregs s n + number * size) % 2 ^ 64) size v ∷ []) (λ v. gets v s.nzcv)) (traps BadAccess) (λ v lt. next_word) tt
-row_forward may place (Str size t n number) s forward =
-    results_choice DoneForward (may true ((value xregs s n + number * size) % 2 ^ 64) size)
-    (makes (access Write false place ((value xregs s n + number * size) % 2 ^ 64) size (value xregs s t % 256 ^ size)) (gets 0 s.nzcv)) (traps BadAccess) (λ v lt. next_word) tt
-row_forward may place DmbFull s forward = λ v lt. next_word
-row_forward may place DmbLd s forward = λ v lt. next_word
-row_forward may place DmbSt s forward = λ v lt. next_word
-row_forward may place (Brk number) s forward =
+-- a branch that goes forward
+branch_forward : (taken : Bool) (distance : ℤ) (f : Nzcv) → GoesForward distance → AllResults DoneForward (branches taken distance f)
+branch_forward taken distance f forward = results_choice DoneForward taken (jumps distance f) (jumps (pos 1) f) forward next_word
+
+-- an exchange goes on to the next word
+exchange_forward : (may : Permission) (place address size : ℕ) (new : ℕ → Option ℕ) (f : Nzcv)
+    → AllResults DoneForward (exchanges may place address size new (λ old. gets old f))
+exchange_forward may place address size new f =
+    results_choice DoneForward (may false address size && may true address size)
+    (Acts (256 ^ size) (λ v. access Read true place address size v ∷ locked_write place address size (new v)) (λ v. gets v f)) (traps BadAccess) (λ v lt. next_word) tt
+
+act_forward : (may : Permission) (place : ℕ) (w : A64 XReg) (r : XReg → ℕ) (f : Nzcv) → IsForward w → AllResults DoneForward (a64_act xregs may place w r f)
+act_forward may place (Subs x d n m kind amount) r f forward = next_word
+act_forward may place (B distance) r f forward = forward
+act_forward may place (BCond code distance) r f forward = branch_forward (holds code f) distance f forward
+act_forward may place (Cbz x t distance) r f forward = branch_forward (low x (r t) == 0) distance f forward
+act_forward may place (Cbnz x t distance) r f forward = branch_forward (not (low x (r t) == 0)) distance f forward
+act_forward may place (Ldr size t n number) r f forward =
+    results_choice DoneForward (may false ((r n + number * size) % 2 ^ 64) size)
+    (Acts (256 ^ size) (λ v. access Read false place ((r n + number * size) % 2 ^ 64) size v ∷ []) (λ v. gets v f)) (traps BadAccess) (λ v lt. next_word) tt
+act_forward may place (Str size t n number) r f forward =
+    results_choice DoneForward (may true ((r n + number * size) % 2 ^ 64) size)
+    (makes (access Write false place ((r n + number * size) % 2 ^ 64) size (r t % 256 ^ size)) (gets 0 f)) (traps BadAccess) (λ v lt. next_word) tt
+act_forward may place (Cas size s t n) r f forward = exchange_forward may place (r n) size (a64_written (Cas size s t n) r) f
+act_forward may place (Swp size s t n) r f forward = exchange_forward may place (r n) size (a64_written (Swp size s t n) r) f
+act_forward may place (Ldadd size s t n) r f forward = exchange_forward may place (r n) size (a64_written (Ldadd size s t n) r) f
+act_forward may place (Ldclr size s t n) r f forward = exchange_forward may place (r n) size (a64_written (Ldclr size s t n) r) f
+act_forward may place (Ldeor size s t n) r f forward = exchange_forward may place (r n) size (a64_written (Ldeor size s t n) r) f
+act_forward may place (Ldset size s t n) r f forward = exchange_forward may place (r n) size (a64_written (Ldset size s t n) r) f
+act_forward may place DmbFull r f forward = λ v lt. next_word
+act_forward may place DmbLd r f forward = λ v lt. next_word
+act_forward may place DmbSt r f forward = λ v lt. next_word
+act_forward may place (Brk number) r f forward =
     results_choice DoneForward (number == 1) (traps Divide) (if number == 2 then traps Invalid else (if number == 3 then traps BadReturn else traps BadJump)) tt
     (results_choice DoneForward (number == 2) (traps Invalid) (if number == 3 then traps BadReturn else traps BadJump) tt
     (results_choice DoneForward (number == 3) (traps BadReturn) (traps BadJump) tt tt))
-row_forward may place (Svc number) s forward =
-    let x7 = value xregs s (record { number = 7 }) in
-    results_choice DoneForward (number == 1) (takes_in place (λ v. gets v s.nzcv)) (if number == 2 then puts_out place x7 (gets 0 s.nzcv) else (if number == 3 then Gives (Stops Halted) else traps BadJump)) (λ v lt. next_word)
-    (results_choice DoneForward (number == 2) (puts_out place x7 (gets 0 s.nzcv)) (if number == 3 then Gives (Stops Halted) else traps BadJump) (λ v lt. next_word)
+act_forward may place (Svc number) r f forward =
+    let x7 = r (record { number = 7 }) in
+    results_choice DoneForward (number == 1) (takes_in place (λ v. gets v f)) (if number == 2 then puts_out place x7 (gets 0 f) else (if number == 3 then Gives (Stops Halted) else traps BadJump)) (λ v lt. next_word)
+    (results_choice DoneForward (number == 2) (puts_out place x7 (gets 0 f)) (if number == 3 then Gives (Stops Halted) else traps BadJump) (λ v lt. next_word)
     (results_choice DoneForward (number == 3) (Gives (Stops Halted)) (traps BadJump) tt tt))
+act_forward may place w r f forward = next_word
+
+computed_forward : (computed : Option ℕ) (f : Nzcv) (act : Tree (Next Done)) → AllResults DoneForward act → AllResults DoneForward (computes_or computed f act)
+computed_forward (Some v) f act forward = next_word
+computed_forward None f act forward = forward
+
+row_forward : (may : Permission) (place : ℕ) (w : A64 XReg) (s : AState) → IsForward w → AllResults DoneForward (a64_row xregs may place w (value xregs s) s.nzcv)
+row_forward may place w s forward =
+    computed_forward (a64_value w (value xregs s) s.nzcv) s.nzcv (a64_act xregs may place w (value xregs s) s.nzcv) (act_forward may place w (value xregs s) s.nzcv forward)
 
 -- where a distance forward leads, in low addresses
 moved_forward : (at : ℕ) (distance : ℤ) → at < 2 ^ 63 → GoesForward distance → moved at distance ≡ at + 4 + 4 * ahead distance
@@ -142,7 +172,7 @@ word_middle first pre v post =
     ap (λ b. if b then slice_get (pre ++ v ∷ post) ((at - first) / 4) else None) inside ∙ ap (slice_get (pre ++ v ∷ post)) index ∙ get_middle pre v post
 
 -- they stand where they are laid, behind some words and before others
-pub words_stand : (first : ℕ) (pre : List ℕ) (ws : List (A64 XReg)) (post : List ℕ) → AllByRecursion InRange ws → StandAt first (pre ++ (map word_of ws ++ post)) (first + 4 * length pre) ws
+pub words_stand : (first : ℕ) (pre : List ℕ) (ws : List (A64 XReg)) (post : List ℕ) → AllByRecursion IsEncodable ws → StandAt first (pre ++ (map word_of ws ++ post)) (first + 4 * length pre) ws
 words_stand first pre [] post range = tt
 words_stand first pre (w ∷ ws) post range =
     let all = pre ++ (map word_of (w ∷ ws) ++ post) in

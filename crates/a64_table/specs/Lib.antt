@@ -1,4 +1,6 @@
-pub mod Words
-pub mod Decoding
+pub mod State
+pub mod Values
 pub mod Rows
+pub mod Answers
 pub mod Machine
+pub mod Laws

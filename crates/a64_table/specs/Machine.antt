@@ -1,13 +1,13 @@
 -- The machine that takes the words of a code segment.
-use Rattle.std.specs.Prelude.{ℕ, ◌-◌, ◌/◌, ◌%◌, ◌^◌, ◌==◌, ◌&&◌, nat_le, if◌then◌else◌, ℤ, pos, ◌+ℤ◌, ◌*ℤ◌, unsigned_abs, List, slice_get, Option, Some, None, option_and_then}
-use Rattle.std.specs.Int.{int_rem_euclid}
+use Rattle.std.specs.Prelude.{ℕ, ◌-◌, ◌/◌, ◌%◌, ◌==◌, ◌&&◌, nat_le, if◌then◌else◌, List, slice_get, Option, Some, None, option_and_then}
 use Rattle.ev_graph.specs.declared.events.TrapKind.TheVariants.{BadJump}
 use Rattle.behavior.specs.Tree.{Tree, Begins, Next, ◌then◌}
 use Rattle.behavior.specs.Acts.{Permission, goes, traps}
-use Rattle.a64_table.specs.declared.narrow.XReg.{XReg}
-use Rattle.a64_table.specs.declared.narrow.A64.{A64}
-use Rattle.a64_table.specs.Decoding.{a64_of}
-use Rattle.a64_table.specs.Rows.{xregs, a64_row, a64_result, AState, value, after}
+use Rattle.a64_code.specs.declared.instr.XReg.{XReg}
+use Rattle.a64_code.specs.declared.instr.A64.{A64}
+use Rattle.a64_code.specs.Decoding.{a64_of}
+use Rattle.a64_table.specs.State.{AState, xregs, value, after, moved}
+use Rattle.a64_table.specs.Rows.{a64_row, a64_result}
 
 -- a thread between two words: the address of the next one, and what the thread holds
 pub record AThread : Type 0 where
@@ -17,10 +17,6 @@ pub record AThread : Type 0 where
 -- the word of a code segment at an address, where one begins there
 abbrev pub word_at : (first : ℕ) → List ℕ → (at : ℕ) → Option ℕ
 word_at first words at = if nat_le first at && (at - first) % 4 == 0 then slice_get words ((at - first) / 4) else None
-
--- so many words on from an address, modulo 2^64
-abbrev pub moved : ℕ → ℤ → ℕ
-moved at distance = unsigned_abs (int_rem_euclid (pos at +ℤ pos 4 *ℤ distance) (pos (2 ^ 64)))
 
 -- the instruction at the thread's address, if there is one
 abbrev pub a64_take : Permission → Option (A64 XReg) → AThread → Tree (Next AThread)

@@ -22,10 +22,13 @@ use Rattle.behavior.proofs.Beside.{Beside, give, spend, beside_keeps}
 use Rattle.behavior.proofs.KeepsLemmas.{keeps_then_more}
 use Rattle.behavior.proofs.Walks.{From, from-cut, from-stop, from-go, run_walk, walk_from}
 use Rattle.behavior.proofs.Blocks.{to_block}
-use Rattle.a64_table.specs.declared.narrow.XReg.{XReg}
-use Rattle.a64_table.specs.declared.narrow.A64.{A64}
-use Rattle.a64_table.specs.Words.{InRange, word_of}
-use Rattle.a64_table.specs.Rows.{xregs, low, AState, value, a64_words}
+use Rattle.a64_code.specs.declared.instr.XReg.{XReg}
+use Rattle.a64_code.specs.declared.instr.A64.{A64}
+use Rattle.a64_code.specs.Ranges.{IsEncodable}
+use Rattle.a64_code.specs.Words.{word_of}
+use Rattle.a64_table.specs.State.{xregs, AState, value}
+use Rattle.a64_table.specs.Values.{low}
+use Rattle.a64_table.specs.Rows.{a64_words}
 use Rattle.a64_table.specs.Machine.{AThread, a64_step}
 use Rattle.a64_table.proofs.MachineLemmas.{lands, StandAt}
 use Rattle.straight_line.specs.declared.steps.Step.{Step}

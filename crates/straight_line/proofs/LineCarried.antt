@@ -15,10 +15,12 @@ use Rattle.x64_syntax.specs.declared.placed.Placed.{Placed}
 use Rattle.x64_table.specs.State.{Thread}
 use Rattle.x64_table.specs.Rows.{Exit, State, Return, Indexed}
 use Rattle.x64_table.specs.Machine.{resolve, no_sites, x64_step}
-use Rattle.a64_table.specs.declared.narrow.XReg.{XReg}
-use Rattle.a64_table.specs.declared.narrow.A64.{A64}
-use Rattle.a64_table.specs.declared.narrow.A64.TheVariants as words
-use Rattle.a64_table.specs.Rows.{xregs, low, AState, value, IsForward, a64_words}
+use Rattle.a64_code.specs.declared.instr.XReg.{XReg}
+use Rattle.a64_code.specs.declared.instr.A64.{A64}
+use Rattle.a64_code.specs.declared.instr.A64.TheVariants as words
+use Rattle.a64_table.specs.State.{xregs, AState, value}
+use Rattle.a64_table.specs.Values.{low}
+use Rattle.a64_table.specs.Rows.{IsForward, a64_words}
 use Rattle.a64_table.specs.Machine.{AThread, a64_step}
 use Rattle.a64_table.proofs.MachineLemmas.{words-append, lands, words_unfold, StandAt}
 use Rattle.line_read.specs.Line.{IsStraight, Stand}
@@ -101,7 +103,7 @@ pub code_parts : (may : Permission) (code end : ℕ) (ws : List (A64 XReg)) (s :
     → (a64_words xregs may code ws 0 s then (λ r. a64_words xregs may (code + 4 * length ws) ending r.0 r.1 then lands end)) ≡ (a64_words xregs may code (ws ++ ending) 0 s then lands end)
 code_parts may code end ws s =
     sym (then-assoc (a64_words xregs may code ws 0 s) (λ r. a64_words xregs may (code + 4 * length ws) ending r.0 r.1) (lands end))
-    ∙ ap (λ t. t then lands end) (sym (words-append may ws ending code 0 s))
+    ∙ ap (λ t. t then lands end) (sym (words-append xregs may ws ending code 0 s))
 
 pub threads_keep : (first code : ℕ) (p : Placed) (ps : List Placed) (ws : List (A64 XReg)) → Passes first (p ∷ ps) ws → (may : Permission) (s : Thread) (t : AThread) → Starts first code s t
     → Keeps full 256 0 (SameNext (Starts first code)) (x64_rows may (p ∷ ps) s then resolve no_sites) (code_tree may code ws t)

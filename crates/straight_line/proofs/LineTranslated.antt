@@ -12,10 +12,12 @@ use Rattle.behavior.proofs.SeenLemmas.{sees-full, full-to_trace}
 use Rattle.behavior.specs.Kept.{SameNext}
 use Rattle.x64_syntax.specs.declared.placed.Placed.{Placed}
 use Rattle.x64_table.specs.Machine.{resolve, no_sites, x64_step}
-use Rattle.a64_table.specs.declared.narrow.XReg.{XReg}
-use Rattle.a64_table.specs.declared.narrow.A64.{A64}
-use Rattle.a64_table.specs.Words.{InRange, word_of}
-use Rattle.a64_table.specs.Rows.{low, IsForward}
+use Rattle.a64_code.specs.declared.instr.XReg.{XReg}
+use Rattle.a64_code.specs.declared.instr.A64.{A64}
+use Rattle.a64_code.specs.Ranges.{IsEncodable}
+use Rattle.a64_code.specs.Words.{word_of}
+use Rattle.a64_table.specs.Values.{low}
+use Rattle.a64_table.specs.Rows.{IsForward}
 use Rattle.a64_table.specs.Machine.{a64_step}
 use Rattle.a64_table.proofs.MachineLemmas.{StandAt, words_stand}
 use Rattle.line_read.specs.Line.{IsStraight}
@@ -43,12 +45,12 @@ carries_line : (first code : ℕ) (all : List ℕ) (entry : ℕ) (line : List Pl
 carries_line first code all entry [] ws straight passes steps selects stand forward low = absurd straight.ends
 carries_line first code all entry (p ∷ ps) ws straight passes steps selects stand forward low = carries_cons first code all entry p ps ws straight passes steps selects stand forward low
 
-ending_range : AllByRecursion InRange ending
-ending_range = (((omega arith, λ e. absurd (omega (arith, e))), grind (arith, ints), grind (arith, ints)), ((omega arith, omega arith), ((omega arith, omega arith), tt)))
+ending_range : AllByRecursion IsEncodable ending
+ending_range = (((omega arith, λ e. absurd (omega (arith, e))), (grind (arith, ints), grind (arith, ints))), ((omega arith, omega arith), ((omega arith, omega arith), tt)))
 
 -- the passes together carry the line, wherever its words stand
 pub carries : (first : ℕ) (line : List Placed) (steps with_fences : List Step) (ws : List (A64 XReg)) (laid : List ℕ) → IsStraight first line
-    → LiftsLine first line steps → IsFenced steps with_fences → KeepsPlaced steps with_fences → SelectsWords with_fences ws → AllByRecursion InRange ws → AllByRecursion IsForward ws
+    → LiftsLine first line steps → IsFenced steps with_fences → KeepsPlaced steps with_fences → SelectsWords with_fences ws → AllByRecursion IsEncodable ws → AllByRecursion IsForward ws
     → laid ≡ map word_of (ws ++ ending) → (code : ℕ) (before after : List ℕ) → code + 4 * length (before ++ (laid ++ after)) < 2 ^ 63
     → CarriesLine first line code (before ++ (laid ++ after)) (code + 4 * length before)
 carries first line steps with_fences ws laid straight lifts placed fences selects range forward same code before after below =
@@ -56,7 +58,7 @@ carries first line steps with_fences ws laid straight lifts placed fences select
     let long : length laid ≡ length (ws ++ ending) = ap length same ∙ length-map (ws ++ ending) word_of in
     let whole : length (before ++ (laid ++ after)) ≡ length before + (length laid + length after) = length-append before (laid ++ after) ∙ ap (λ n. length before + n) (length-append laid after) in
     let ends : entry + 4 * length (ws ++ ending) < 2 ^ 63 = omega (arith, below, long, whole) in
-    let stand = words_stand code before (ws ++ ending) after (all_append InRange ws ending range ending_range) in
+    let stand = words_stand code before (ws ++ ending) after (all_append IsEncodable ws ending range ending_range) in
     let there : StandAt code (before ++ (laid ++ after)) entry (ws ++ ending) = subst (λ l. StandAt code (before ++ (l ++ after)) entry (ws ++ ending)) (sym same) stand in
     carries_line first code (before ++ (laid ++ after)) entry line ws straight (record { steps = steps; with_fences = with_fences; lifts = lifts; fences = fences; selects = selects }) steps
     (subst (λ l. SelectsWords l ws) placed selects) there (all_append IsForward ws ending forward ((1, refl, omega arith), (tt, (tt, tt)))) ends

@@ -15,11 +15,16 @@ use Rattle.behavior.proofs.SeenLemmas.{sees-lowered}
 use Rattle.behavior.proofs.Beside.{Beside, give, earn, spend, beside_keeps, more_credit}
 use Rattle.behavior.proofs.ActsLemmas.{beside_reads, beside_writes, beside_fences}
 use Rattle.behavior.proofs.KeepsLemmas.{keeps_then}
-use Rattle.a64_table.specs.declared.narrow.XReg.{XReg}
-use Rattle.a64_table.specs.declared.narrow.A64.{A64}
-use Rattle.a64_table.specs.declared.narrow.A64.TheVariants as words
-use Rattle.a64_table.specs.Words.{InRange}
-use Rattle.a64_table.specs.Rows.{Nzcv, Done, xregs, low, shifted, with_quarter, gets, AState, value, after, ahead, IsForward, a64_words}
+use Rattle.a64_code.specs.declared.instr.XReg.{XReg}
+use Rattle.a64_code.specs.declared.instr.A64.{A64}
+use Rattle.a64_code.specs.declared.instr.A64.TheVariants as words
+use Rattle.a64_code.specs.Ranges.{IsEncodable}
+use Rattle.word_arith.specs.Bits.{insert}
+use Rattle.a64_table.specs.declared.state.Nzcv.{Nzcv}
+use Rattle.a64_table.specs.declared.state.Done.{Done}
+use Rattle.a64_table.specs.State.{xregs, AState, value, after}
+use Rattle.a64_table.specs.Values.{low, shifted}
+use Rattle.a64_table.specs.Rows.{gets, ahead, IsForward, a64_words}
 use Rattle.a64_table.proofs.MachineLemmas.{words-append}
 use Rattle.straight_line.specs.declared.steps.Step.{Step}
 use Rattle.straight_line.specs.declared.steps.Step.TheVariants.{Copy, Number, Load, Store, Add, ReadFence, WriteFence, FullFence}
@@ -80,7 +85,7 @@ finished to n i s fit fits holds = record {
     by r lt false e = holds.others r lt (differ r to e) ∙ sym (ap (λ c. if c then n else i r) e)
 
 -- 16 more bits, or none where they are 0
-quarter_step : (may : Permission) (to n bits k part part' : ℕ) (i : Bank) → to < 17 → (bits ≡ 0 → part ≡ part') → with_quarter (low true part) bits k ≡ part'
+quarter_step : (may : Permission) (to n bits k part part' : ℕ) (i : Bank) → to < 17 → (bits ≡ 0 → part ≡ part') → insert (16 * k) 16 (low true part) bits ≡ part'
     → (credit at : ℕ) (rest : List (A64 XReg)) (b : Bool) → (bits == 0) ≡ b → (s : AState) → Holds to part i s
     → ((at' : ℕ) (s' : AState) → Holds to part' i s' → Beside lowered 4 (SameNext Selected) credit (goes (put to n i)) (a64_words xregs may at' rest 0 s'))
     → Beside lowered 4 (SameNext Selected) (suc credit) (goes (put to n i)) (a64_words xregs may at ((if b then [] else words.Movk true (x to) bits k ∷ []) ++ rest) 0 s)
@@ -89,8 +94,8 @@ quarter_step may to n bits k part part' i named skips merges credit at rest true
     (later at s (record { here = holds.here ∙ skips (eqb-true bits 0 e); others = holds.others }))
 quarter_step may to n bits k part part' i named skips merges credit at rest false e s holds later =
     let old = value xregs s (x to) in
-    let v = with_quarter (low true old) bits k in
-    let is : v ≡ part' = ap (λ o. with_quarter (low true o) bits k) (register_is s to named ∙ holds.here) ∙ merges in
+    let v = insert (16 * k) 16 (low true old) bits in
+    let is : v ≡ part' = ap (λ o. insert (16 * k) 16 (low true o) bits) (register_is s to named ∙ holds.here) ∙ merges in
     spend {less = credit} (omega arith)
     (later (at + 4) (record { regs = put to v s.regs; nzcv = s.nzcv }) (record { here = put_here to v s.regs ∙ is; others = λ r lt apart. put_other to v s.regs r apart ∙ holds.others r lt apart }))
 
@@ -170,7 +175,7 @@ selects_all may (step ∷ xs) well at i s same =
     let one = beside_keeps lowered sees-lowered 4 (SameNext Selected) (selects_step may step well.0 at i s same) in
     let both = keeps_then lowered sees-lowered 4 0 Selected Selected (ir_steps may xs) (λ r. a64_words xregs may next (flat_map selected xs) r.0 r.1)
     (selects_rest may xs (flat_map selected xs) next (λ j t here. selects_all may xs well.1 next j t here)) one in
-    subst (λ t. Keeps lowered 4 0 (SameNext Selected) (ir_steps may (step ∷ xs) i) t) (sym (words-append may (selected step) (flat_map selected xs) at 0 s))
+    subst (λ t. Keeps lowered 4 0 (SameNext Selected) (ir_steps may (step ∷ xs) i) t) (sym (words-append xregs may (selected step) (flat_map selected xs) at 0 s))
     (subst (λ t. Keeps lowered 4 0 (SameNext Selected) t (a64_words xregs may at (selected step) 0 s then (λ r. a64_words xregs may next (flat_map selected xs) r.0 r.1))) (sym (steps-append may (step ∷ []) xs i)) both)
 
 pub selects : (xs : List Step) (ws : List (A64 XReg)) → AllByRecursion IsStep xs → ws ≡ flat_map selected xs → SelectsWords xs ws
@@ -182,16 +187,16 @@ selects xs ws well same may at i s here =
 named : (n : ℕ) → n < 17 → (n < 29) × (n ≢ 18)
 named n lt = (omega (arith, lt), λ e. absurd (omega (arith, lt, e)))
 
-quarter_range : (to bits k : ℕ) → to < 17 → bits < 2 ^ 16 → k < 4 → (b : Bool) → AllByRecursion InRange (if b then [] else words.Movk true (x to) bits k ∷ [])
+quarter_range : (to bits k : ℕ) → to < 17 → bits < 2 ^ 16 → k < 4 → (b : Bool) → AllByRecursion IsEncodable (if b then [] else words.Movk true (x to) bits k ∷ [])
 quarter_range to bits k lt small few true = tt
-quarter_range to bits k lt small few false = ((named to lt, small, few), tt)
+quarter_range to bits k lt small few false = ((named to lt, (small, few)), tt)
 
-selected_range : (step : Step) → IsStep step → AllByRecursion InRange (selected step)
-selected_range (Copy to from) (a, b) = ((named to a, inr refl, inl (named from b), omega arith, omega arith), tt)
+selected_range : (step : Step) → IsStep step → AllByRecursion IsEncodable (selected step)
+selected_range (Copy to from) (a, b) = ((named to a, inr refl, inl (named from b), (omega arith, omega arith)), tt)
 selected_range (Number to n) (a, b) = (
-  (named to a, omega arith, omega arith),
-  all_append InRange (quarter_word to (quarter_of n 1) 1) (quarter_word to (quarter_of n 2) 2 ++ quarter_word to (quarter_of n 3) 3) (quarter_range to (quarter_of n 1) 1 a (omega arith) (omega arith) (quarter_of n 1 == 0))
-      (all_append InRange (quarter_word to (quarter_of n 2) 2) (quarter_word to (quarter_of n 3) 3) (quarter_range to (quarter_of n 2) 2 a (omega arith) (omega arith) (quarter_of n 2 == 0))
+  (named to a, (omega arith, omega arith)),
+  all_append IsEncodable (quarter_word to (quarter_of n 1) 1) (quarter_word to (quarter_of n 2) 2 ++ quarter_word to (quarter_of n 3) 3) (quarter_range to (quarter_of n 1) 1 a (omega arith) (omega arith) (quarter_of n 1 == 0))
+      (all_append IsEncodable (quarter_word to (quarter_of n 2) 2) (quarter_word to (quarter_of n 3) 3) (quarter_range to (quarter_of n 2) 2 a (omega arith) (omega arith) (quarter_of n 2 == 0))
       (quarter_range to (quarter_of n 3) 3 a (omega arith) (omega arith) (quarter_of n 3 == 0))),
 )
 selected_range (Load to address place) (a, b) = ((inr (inr (inr refl)), named to a, named address b, omega arith), tt)
@@ -201,9 +206,9 @@ selected_range ReadFence h = (tt, tt)
 selected_range WriteFence h = (tt, tt)
 selected_range FullFence h = (tt, tt)
 
-pub selects_range : (xs : List Step) → AllByRecursion IsStep xs → AllByRecursion InRange (flat_map selected xs)
+pub selects_range : (xs : List Step) → AllByRecursion IsStep xs → AllByRecursion IsEncodable (flat_map selected xs)
 selects_range [] well = tt
-selects_range (step ∷ xs) well = all_append InRange (selected step) (flat_map selected xs) (selected_range step well.0) (selects_range xs well.1)
+selects_range (step ∷ xs) well = all_append IsEncodable (selected step) (flat_map selected xs) (selected_range step well.0) (selects_range xs well.1)
 
 -- no word of a step branches
 quarter_forward : (to bits k : ℕ) (b : Bool) → AllByRecursion IsForward (if b then [] else words.Movk true (x to) bits k ∷ [])

@@ -7,10 +7,10 @@ use Rattle.x64_syntax.specs.declared.placed.Placed.{Placed}
 use Rattle.line_read.specs.declared.plain.Plain.{Plain}
 use Rattle.line_read.specs.declared.plain.Plain.TheVariants as plain
 use Rattle.line_read.specs.Plain.{plain_of}
-use Rattle.a64_table.specs.declared.narrow.XReg.{XReg}
-use Rattle.a64_table.specs.declared.narrow.A64.{A64}
-use Rattle.a64_table.specs.declared.narrow.A64.TheVariants as words
-use Rattle.a64_table.specs.Words.{word_of}
+use Rattle.a64_code.specs.declared.instr.XReg.{XReg}
+use Rattle.a64_code.specs.declared.instr.A64.{A64}
+use Rattle.a64_code.specs.declared.instr.A64.TheVariants as words
+use Rattle.a64_code.specs.Words.{word_of}
 use Rattle.straight_line.specs.declared.steps.Step.{Step}
 use Rattle.straight_line.specs.declared.steps.Step.TheVariants.{Copy, Number, Load, Store, Add, ReadFence, WriteFence, FullFence}
 use Rattle.straight_line.specs.Passes.{lifted_plain, lifted_some, lifted, fenced, x, quarter_word, quarter_of, selected, ending}

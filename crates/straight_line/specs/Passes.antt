@@ -10,10 +10,11 @@ use Rattle.x64_table.specs.Rows.{Exit, State, Return, Indexed}
 use Rattle.line_read.specs.declared.plain.Plain.{Plain}
 use Rattle.line_read.specs.declared.plain.Plain.TheVariants as plain
 use Rattle.line_read.specs.Plain.{plain_of}
-use Rattle.a64_table.specs.declared.narrow.XReg.{XReg}
-use Rattle.a64_table.specs.declared.narrow.A64.{A64}
-use Rattle.a64_table.specs.declared.narrow.A64.TheVariants as words
-use Rattle.a64_table.specs.Rows.{AState, xregs, a64_words}
+use Rattle.a64_code.specs.declared.instr.XReg.{XReg}
+use Rattle.a64_code.specs.declared.instr.A64.{A64}
+use Rattle.a64_code.specs.declared.instr.A64.TheVariants as words
+use Rattle.a64_table.specs.State.{AState, xregs}
+use Rattle.a64_table.specs.Rows.{a64_words}
 use Rattle.straight_line.specs.declared.steps.Step.{Step}
 use Rattle.straight_line.specs.declared.steps.Step.TheVariants.{Copy, Number, Load, Store, Add, ReadFence, WriteFence, FullFence}
 use Rattle.straight_line.specs.Line.{x64_rows}

@@ -1,15 +1,16 @@
 ghost use Rattle.std.specs.Prelude.{◌≡◌, ◌++◌, IfOk, map};
 ghost use Rattle.std.specs.List.{AllByRecursion};
-ghost use Rattle.a64_table.specs.Words.{InRange, word_of};
+ghost use Rattle.a64_code.specs.Ranges.{IsEncodable};
+ghost use Rattle.a64_code.specs.Words.{word_of};
 ghost use Rattle.straight_line.specs.Passes.{ending};
 
-use a64_table::narrow::{A64, XReg, encode};
+use a64_code::{A64, XReg, encode};
 use ev_graph::NoMemory;
 use std::alloc::Global;
 
 /// The code of a thread: the words of its steps, and the ending of a return.
 pub fn lay_out(alloc: Global, words: &[A64<XReg>]) -> Result<Vec<u32>, NoMemory>
-    requires { AllByRecursion InRange words.now }
+    requires { AllByRecursion IsEncodable words.now }
     ensures { IfOk result (λ code. code.items ≡ map word_of (words.now ++ ending)) }
 {
     let mut code = Vec::new(alloc);

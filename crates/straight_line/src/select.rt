@@ -1,12 +1,12 @@
 ghost use Rattle.std.specs.Prelude.{◌≡◌, ◌≤◌, ◌++◌, ◌*◌, ◌<◌, IfOk, OnOk, length};
 ghost use Rattle.std.specs.List.{flat_map, AllByRecursion};
-ghost use Rattle.a64_table.specs.Words.{InRange};
+ghost use Rattle.a64_code.specs.Ranges.{IsEncodable};
 ghost use Rattle.a64_table.specs.Rows.{IsForward};
 ghost use Rattle.straight_line.specs.Passes.{selected, quarter_word, quarter_of, x, SelectsWords};
 ghost use Rattle.straight_line.specs.Steps.{IsStep};
 
 use crate::steps::Step;
-use a64_table::narrow::{A64, XReg};
+use a64_code::{A64, XReg};
 use ev_graph::NoMemory;
 use std::alloc::Global;
 
@@ -14,7 +14,7 @@ use std::alloc::Global;
 pub fn select_words(alloc: Global, steps: &[Step]) -> Result<Vec<A64<XReg>>, NoMemory>
     requires { AllByRecursion IsStep steps.now }
     ensures meaning { IfOk result (λ words. SelectsWords steps.now words.items) }
-    ensures range { IfOk result (λ words. AllByRecursion InRange words.items) }
+    ensures range { IfOk result (λ words. AllByRecursion IsEncodable words.items) }
     ensures forward { IfOk result (λ words. AllByRecursion IsForward words.items) }
     ensures size { IfOk result (λ words. length words.items ≤ 4 * length steps.now) }
 {

@@ -1,5 +1,5 @@
 use Rattle.std.proofs.Common.{◌≡◌, take, map}
-use Rattle.a64_table.specs.Words.{word_of}
+use Rattle.a64_code.specs.Words.{word_of}
 use Rattle.straight_line.proofs.layout.lay_out.Given as goal
 
 abbrev pub invariant-loop-word : goal.invariant-loop-word

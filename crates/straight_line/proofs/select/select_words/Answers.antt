@@ -1,7 +1,7 @@
 use Rattle.std.proofs.lemmas.Result.{IfOk-weaker}
 use Rattle.std.proofs.Common.{◌≡◌, ◌≤◌, ◌*◌, length, sym, subst}
 use Rattle.std.specs.List.{AllByRecursion, flat_map}
-use Rattle.a64_table.specs.Words.{InRange}
+use Rattle.a64_code.specs.Ranges.{IsEncodable}
 use Rattle.a64_table.specs.Rows.{IsForward}
 use Rattle.straight_line.specs.Passes.{selected, SelectsWords}
 use Rattle.straight_line.proofs.Selected.{selects, selects_range, selects_forward}
@@ -16,8 +16,8 @@ returns-clause-meaning c =
 pub returns-clause-range : goal.returns-clause-range
 returns-clause-range c =
     let steps = c.args.steps.now in
-    IfOk-weaker c.select_each.result (λ words. words.items ≡ flat_map selected steps) (λ words. AllByRecursion InRange words.items)
-    (λ words same. subst (λ l. AllByRecursion InRange l) (sym same) (selects_range steps c.requires)) c.select_each.ensures
+    IfOk-weaker c.select_each.result (λ words. words.items ≡ flat_map selected steps) (λ words. AllByRecursion IsEncodable words.items)
+    (λ words same. subst (λ l. AllByRecursion IsEncodable l) (sym same) (selects_range steps c.requires)) c.select_each.ensures
 
 pub returns-clause-forward : goal.returns-clause-forward
 returns-clause-forward c =

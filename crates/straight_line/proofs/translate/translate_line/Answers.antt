@@ -1,6 +1,6 @@
 use Rattle.std.proofs.lemmas.Result.{IfOk-weaker}
 use Rattle.std.proofs.Common.{◌≡◌, ◌≤◌, ℕ, ◌+◌, ◌*◌, ◌^◌, ◌<◌, List, ◌++◌, map, length, ap, ◌∙◌, subst}
-use Rattle.a64_table.specs.Words.{word_of}
+use Rattle.a64_code.specs.Words.{word_of}
 use Rattle.straight_line.specs.Passes.{LiftsLine, IsFenced, KeepsPlaced, SelectsWords, ending}
 use Rattle.straight_line.specs.Carried.{CarriesLine}
 use Rattle.straight_line.proofs.LineTranslated.{carries}
