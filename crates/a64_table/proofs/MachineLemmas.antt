@@ -171,15 +171,14 @@ word_middle first pre v post =
     let index : (at - first) / 4 ≡ length pre = omega arith in
     ap (λ b. if b then slice_get (pre ++ v ∷ post) ((at - first) / 4) else None) inside ∙ ap (slice_get (pre ++ v ∷ post)) index ∙ get_middle pre v post
 
-stand_behind : (first : ℕ) (pre : List ℕ) (ws : List (A64 XReg)) → AllByRecursion IsEncodable ws → StandAt first (pre ++ map word_of ws) (first + 4 * length pre) ws
-stand_behind first pre [] range = tt
-stand_behind first pre (w ∷ ws) range =
-    let here : instr_at first (pre ++ map word_of (w ∷ ws)) (first + 4 * length pre) ≡ Some w =
-    ap (option_and_then a64_of) (word_middle first pre (word_of w) (map word_of ws)) ∙ a64_of-word_of w range.0 in
+-- they stand where they are laid, behind some words and before others
+pub words_stand : (first : ℕ) (pre : List ℕ) (ws : List (A64 XReg)) (post : List ℕ) → AllByRecursion IsEncodable ws → StandAt first (pre ++ (map word_of ws ++ post)) (first + 4 * length pre) ws
+words_stand first pre [] post range = tt
+words_stand first pre (w ∷ ws) post range =
+    let all = pre ++ (map word_of (w ∷ ws) ++ post) in
+    let here : instr_at first all (first + 4 * length pre) ≡ Some w =
+    ap (option_and_then a64_of) (word_middle first pre (word_of w) (map word_of ws ++ post)) ∙ a64_of-word_of w range.0 in
     let next : first + 4 * length (pre ++ word_of w ∷ []) ≡ first + 4 * length pre + 4 = omega (arith, length-append pre (word_of w ∷ [])) in
-    let rest = stand_behind first (pre ++ word_of w ∷ []) ws range.1 in
-    let same : (pre ++ word_of w ∷ []) ++ map word_of ws ≡ pre ++ map word_of (w ∷ ws) = append_assoc pre (word_of w ∷ []) (map word_of ws) in
-    (here, subst (λ a. StandAt first (pre ++ map word_of (w ∷ ws)) a ws) next (subst (λ l. StandAt first l (first + 4 * length (pre ++ word_of w ∷ [])) ws) same rest))
-
-pub words_stand : (first : ℕ) (ws : List (A64 XReg)) → AllByRecursion IsEncodable ws → StandAt first (map word_of ws) first ws
-words_stand first ws range = let e : first + 4 * 0 ≡ first = omega arith in subst (λ a. StandAt first (map word_of ws) a ws) e (stand_behind first [] ws range)
+    let rest = words_stand first (pre ++ word_of w ∷ []) ws post range.1 in
+    let same : (pre ++ word_of w ∷ []) ++ (map word_of ws ++ post) ≡ all = append_assoc pre (word_of w ∷ []) (map word_of ws ++ post) in
+    (here, subst (λ a. StandAt first all a ws) next (subst (λ l. StandAt first l (first + 4 * length (pre ++ word_of w ∷ [])) ws) same rest))

@@ -1,5 +1,5 @@
 -- The run that explains another: it has the same trace, and where there is one there is one with the fewest items.
-use Rattle.std.proofs.Common.{◌≡◌, ◌≢◌, ℕ, zero, suc, ◌<◌, ◌≤◌, List, [], ◌∷◌, ◌++◌, length, refl, sym, ap, ◌∙◌, subst, arith, length-append}
+use Rattle.std.proofs.Common.{◌≡◌, ◌≢◌, ℕ, zero, suc, ◌<◌, ◌≤◌, List, [], ◌∷◌, ◌++◌, length, refl, sym, ap, ◌∙◌, subst, arith, append_assoc, length-append}
 use Rattle.std.proofs.lemmas.List.{append_cancel_left}
 use Rattle.ev_graph.specs.declared.events.Item.{Item}
 use Rattle.ev_graph.specs.declared.events.End.{End}
@@ -7,9 +7,9 @@ use Rattle.ev_graph.specs.declared.events.End.TheVariants.{Running, Halted, Trap
 use Rattle.behavior.specs.Tree.{Tree, Gives, Begins, Acts, Next, Goes}
 use Rattle.behavior.specs.Run.{Run}
 use Rattle.behavior.specs.Seen.{trace, given, counted}
-use Rattle.behavior.specs.Kept.{Backward}
+use Rattle.behavior.specs.Kept.{Backward, BackwardBy}
 use Rattle.behavior.specs.Explained.{Explains, IsOpen}
-use Rattle.behavior.proofs.SeenLemmas.{trace-append, given-append, counted-append, given-trace, counted-trace, trace-none}
+use Rattle.behavior.proofs.SeenLemmas.{IsCoarser, trace-append, given-append, counted-append, given-trace, counted-trace, trace-none}
 use Rattle.behavior.proofs.Walks.{Walk, ends-cut, ends-stop, walks-on, walks-begin, walks-act, run_walk, walk_run}
 
 -- what is behind equal values is equal
@@ -98,6 +98,23 @@ module _ {S : Type 0} (step : S → Tree (Next S)) (open_steps : (s : S) → IsO
       let values' = subst (λ k. given (made v ++ xs) ≡ given (made k ++ ys)) (sym e) values in
       let rest = same_items-ended (decided.1 v) ended ended' walk other' (behind_given (made v) xs ys values') in
       ap (λ l. made v ++ l) rest ∙ ap (λ k. made k ++ ys) e
+
+  -- of two walks on the same values the longer one goes on where the shorter one ends
+  prefix-walks : {t : Tree (Next S)} → IsOpen t → {xs ys : List Item} {end end' : End} {n m : ℕ} → Walk step t xs end n → Walk step t ys end' m
+      → given xs ≡ given ys → length xs ≤ length ys → (rest : List Item) × (ys ≡ xs ++ rest)
+  prefix-walks decided {ys = ys} ends-cut other values long = (ys, refl)
+  prefix-walks decided {xs = xs} walk ends-cut values long = ([], sym (ap (λ l. l ++ []) (empty xs (omega (arith, long)))))
+  prefix-walks decided ends-stop ends-stop values long = ([], refl)
+  prefix-walks decided (walks-on {s = s} walk) (walks-on other) values long = prefix-walks (open_steps s) walk other values long
+  prefix-walks decided (walks-begin walk) (walks-begin other) values long = prefix-walks decided walk other values long
+  prefix-walks decided (walks-act {made = made} {next = next} {items = xs} v lt walk) (walks-act {items = ys} {end = end'} {n = m} w lt' other) values long =
+      let e = same_value made v w _ xs ys decided.0 lt lt' values in
+      let other' = subst (λ k. Walk step (next k) ys end' m) (sym e) other in
+      let values' = subst (λ k. given (made v ++ xs) ≡ given (made k ++ ys)) (sym e) values in
+      let long' = subst (λ k. length (made v ++ xs) ≤ length (made k ++ ys)) (sym e) long in
+      let shorter : length xs ≤ length ys = omega (arith, long', length-append (made v) xs, length-append (made v) ys) in
+      let rest = prefix-walks (decided.1 v) walk other' (behind_given (made v) xs ys values') shorter in
+      (rest.0, ap (λ k. made k ++ ys) (sym e) ∙ ap (λ l. made v ++ l) rest.1 ∙ sym (append_assoc (made v) xs rest.0))
 
   -- the shortest walk that is cut, on the same values and of as many accesses, inputs and outputs
   abbrev Least : Tree (Next S) → List Item → Type 0
@@ -199,3 +216,16 @@ module _ {S : Type 0} (step : S → Tree (Next S)) (open_steps : (s : S) → IsO
       let one = backward made end n run in
       let on_same = explains.is_on_same in
       same_trace on_same.run one.2 (on_same.values ∙ sym (same_given one.0 made one.3)) (on_same.many ∙ sym (same_counted one.0 made one.3)) ∙ one.3
+
+  -- A run that is matched with more than the trace begins with the explanation.
+  pub explanation_first : {T : Type 0} (seen : List Item → List Item) → IsCoarser seen trace → (target : T → Tree (Next T)) (s : S) (t : T) → BackwardBy seen step s target t
+      → {made : List Item} {end : End} {n : ℕ} → Run target t made end n → {items : List Item} → Explains step s made end items
+      → (from rest : List Item) × (from ≡ items ++ rest) × (seen from ≡ seen made)
+  explanation_first seen coarser target s t backward {made} {end} {n} run {items} explains =
+      let one = backward made end n run in
+      let on_same = explains.is_on_same in
+      let same = coarser one.0 made one.3 in
+      let values = same_given one.0 made same in
+      let few = explains.fewest one.0 (record { begun = one.1; run = one.2; values = values; many = same_counted one.0 made same }) in
+      let rest = prefix-walks (open_steps s) (run_walk on_same.run) (run_walk one.2) (on_same.values ∙ sym values) few in
+      (one.0, rest.0, rest.1, one.3)

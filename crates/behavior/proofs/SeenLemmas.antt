@@ -4,7 +4,9 @@ use Rattle.ev_graph.specs.declared.events.Item.{Item}
 use Rattle.ev_graph.specs.declared.events.Item.TheVariants as items
 use Rattle.ev_graph.specs.declared.events.AccessKind.{AccessKind}
 use Rattle.ev_graph.specs.declared.events.AccessKind.TheVariants.{Read, Write}
-use Rattle.behavior.specs.Seen.{trace, placed, barrier, lowered, all_items, given_by, given, counted}
+use Rattle.ev_graph.specs.declared.events.FenceKind.{FenceKind}
+use Rattle.ev_graph.specs.declared.events.FenceKind.TheVariants.{Frm, Fww, Fsc, Mfence, DmbLd, DmbSt, DmbFull}
+use Rattle.behavior.specs.Seen.{trace, placed, barrier, lowered, with_full, full, placed_full, all_items, given_by, given, counted}
 
 -- what is seen of a list is what is seen of its parts, one behind the other
 pub record SeesByParts (seen : List Item → List Item) : Type 0 where
@@ -36,6 +38,29 @@ lowered-append (items.Fence f ∷ is) ys = ap (λ l. items.Fence (record { kind 
 lowered-append (items.Input t ∷ is) ys = ap (λ l. items.Input (record t { place = 0 }) ∷ l) (lowered-append is ys)
 lowered-append (items.Output t ∷ is) ys = ap (λ l. items.Output (record t { place = 0 }) ∷ l) (lowered-append is ys)
 
+with_full-append : (kind : FenceKind) (xs ys : List Item) → with_full kind (xs ++ ys) ≡ with_full kind xs ++ ys
+with_full-append Frm xs ys = refl
+with_full-append Fww xs ys = refl
+with_full-append Fsc xs ys = refl
+with_full-append Mfence xs ys = refl
+with_full-append DmbLd xs ys = refl
+with_full-append DmbSt xs ys = refl
+with_full-append DmbFull xs ys = refl
+
+pub full-append : (xs ys : List Item) → full (xs ++ ys) ≡ full xs ++ full ys
+full-append [] ys = refl
+full-append (items.Access a ∷ is) ys = ap (λ l. items.Access (record a { place = 0 }) ∷ l) (full-append is ys)
+full-append (items.Fence f ∷ is) ys = ap (with_full f.kind) (full-append is ys) ∙ with_full-append f.kind (full is) (full ys)
+full-append (items.Input t ∷ is) ys = ap (λ l. items.Input (record t { place = 0 }) ∷ l) (full-append is ys)
+full-append (items.Output t ∷ is) ys = ap (λ l. items.Output (record t { place = 0 }) ∷ l) (full-append is ys)
+
+pub placed_full-append : (xs ys : List Item) → placed_full (xs ++ ys) ≡ placed_full xs ++ placed_full ys
+placed_full-append [] ys = refl
+placed_full-append (items.Access a ∷ is) ys = ap (λ l. items.Access a ∷ l) (placed_full-append is ys)
+placed_full-append (items.Fence f ∷ is) ys = ap (with_full f.kind) (placed_full-append is ys) ∙ with_full-append f.kind (placed_full is) (placed_full ys)
+placed_full-append (items.Input t ∷ is) ys = ap (λ l. items.Input (record t { place = 0 }) ∷ l) (placed_full-append is ys)
+placed_full-append (items.Output t ∷ is) ys = ap (λ l. items.Output (record t { place = 0 }) ∷ l) (placed_full-append is ys)
+
 pub sees-trace : SeesByParts trace
 sees-trace = record { none = refl; append = trace-append }
 
@@ -44,6 +69,12 @@ sees-placed = record { none = refl; append = placed-append }
 
 pub sees-lowered : SeesByParts lowered
 sees-lowered = record { none = refl; append = lowered-append }
+
+pub sees-full : SeesByParts full
+sees-full = record { none = refl; append = full-append }
+
+pub sees-placed_full : SeesByParts placed_full
+sees-placed_full = record { none = refl; append = placed_full-append }
 
 pub sees-all_items : SeesByParts all_items
 sees-all_items = record { none = refl; append = λ xs ys. refl }
@@ -103,12 +134,70 @@ trace-placed (items.Fence f ∷ is) = trace-placed is
 trace-placed (items.Input t ∷ is) = ap (λ l. items.Input (record t { place = 0 }) ∷ l) (trace-placed is)
 trace-placed (items.Output t ∷ is) = ap (λ l. items.Output (record t { place = 0 }) ∷ l) (trace-placed is)
 
+trace-with_full : (kind : FenceKind) (xs : List Item) → trace (with_full kind xs) ≡ trace xs
+trace-with_full Frm xs = refl
+trace-with_full Fww xs = refl
+trace-with_full Fsc xs = refl
+trace-with_full Mfence xs = refl
+trace-with_full DmbLd xs = refl
+trace-with_full DmbSt xs = refl
+trace-with_full DmbFull xs = refl
+
+trace-full : (xs : List Item) → trace (full xs) ≡ trace xs
+trace-full [] = refl
+trace-full (items.Access a ∷ is) = ap (λ l. items.Access (record a { place = 0 }) ∷ l) (trace-full is)
+trace-full (items.Fence f ∷ is) = trace-with_full f.kind (full is) ∙ trace-full is
+trace-full (items.Input t ∷ is) = ap (λ l. items.Input (record t { place = 0 }) ∷ l) (trace-full is)
+trace-full (items.Output t ∷ is) = ap (λ l. items.Output (record t { place = 0 }) ∷ l) (trace-full is)
+
+full-with_full : (kind : FenceKind) (xs : List Item) → full (with_full kind xs) ≡ with_full kind (full xs)
+full-with_full Frm xs = refl
+full-with_full Fww xs = refl
+full-with_full Fsc xs = refl
+full-with_full Mfence xs = refl
+full-with_full DmbLd xs = refl
+full-with_full DmbSt xs = refl
+full-with_full DmbFull xs = refl
+
+full-placed_full : (xs : List Item) → full (placed_full xs) ≡ full xs
+full-placed_full [] = refl
+full-placed_full (items.Access a ∷ is) = ap (λ l. items.Access (record a { place = 0 }) ∷ l) (full-placed_full is)
+full-placed_full (items.Fence f ∷ is) = full-with_full f.kind (placed_full is) ∙ ap (with_full f.kind) (full-placed_full is)
+full-placed_full (items.Input t ∷ is) = ap (λ l. items.Input (record t { place = 0 }) ∷ l) (full-placed_full is)
+full-placed_full (items.Output t ∷ is) = ap (λ l. items.Output (record t { place = 0 }) ∷ l) (full-placed_full is)
+
+with_full-barrier : (kind : FenceKind) (xs : List Item) → with_full (barrier kind) xs ≡ with_full kind xs
+with_full-barrier Frm xs = refl
+with_full-barrier Fww xs = refl
+with_full-barrier Fsc xs = refl
+with_full-barrier Mfence xs = refl
+with_full-barrier DmbLd xs = refl
+with_full-barrier DmbSt xs = refl
+with_full-barrier DmbFull xs = refl
+
+full-lowered : (xs : List Item) → full (lowered xs) ≡ full xs
+full-lowered [] = refl
+full-lowered (items.Access a ∷ is) = ap (λ l. items.Access (record a { place = 0 }) ∷ l) (full-lowered is)
+full-lowered (items.Fence f ∷ is) = with_full-barrier f.kind (full (lowered is)) ∙ ap (with_full f.kind) (full-lowered is)
+full-lowered (items.Input t ∷ is) = ap (λ l. items.Input (record t { place = 0 }) ∷ l) (full-lowered is)
+full-lowered (items.Output t ∷ is) = ap (λ l. items.Output (record t { place = 0 }) ∷ l) (full-lowered is)
+
 -- the trace shows less than the barriers with it, and less than the places with it; and each shows less than all
 pub lowered-to_trace : IsCoarser lowered trace
 lowered-to_trace xs ys same = sym (trace-lowered xs) ∙ ap trace same ∙ trace-lowered ys
 
 pub placed-to_trace : IsCoarser placed trace
 placed-to_trace xs ys same = sym (trace-placed xs) ∙ ap trace same ∙ trace-placed ys
+
+-- the trace shows less than the full fences with it, and they show in what has the barriers or the places
+pub full-to_trace : IsCoarser full trace
+full-to_trace xs ys same = sym (trace-full xs) ∙ ap trace same ∙ trace-full ys
+
+pub placed_full-to_full : IsCoarser placed_full full
+placed_full-to_full xs ys same = sym (full-placed_full xs) ∙ ap full same ∙ full-placed_full ys
+
+pub lowered-to_full : IsCoarser lowered full
+lowered-to_full xs ys same = sym (full-lowered xs) ∙ ap full same ∙ full-lowered ys
 
 pub all_items-to : (coarse : List Item → List Item) → IsCoarser all_items coarse
 all_items-to coarse xs ys same = ap coarse same

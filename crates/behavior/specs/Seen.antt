@@ -42,6 +42,32 @@ lowered (items.Fence f ∷ is) = items.Fence (record { kind = barrier f.kind; pl
 lowered (items.Input t ∷ is) = items.Input (record t { place = 0 }) ∷ lowered is
 lowered (items.Output t ∷ is) = items.Output (record t { place = 0 }) ∷ lowered is
 
+-- a full fence before other items; a fence of another kind is left out
+abbrev pub with_full : FenceKind → List Item → List Item
+with_full Fsc is = items.Fence (record { kind = DmbFull; place = 0 }) ∷ is
+with_full Mfence is = items.Fence (record { kind = DmbFull; place = 0 }) ∷ is
+with_full DmbFull is = items.Fence (record { kind = DmbFull; place = 0 }) ∷ is
+with_full Frm is = is
+with_full Fww is = is
+with_full DmbLd is = is
+with_full DmbSt is = is
+
+-- the trace with the full fences between: Fsc, MFENCE and DMB ISH
+abbrev pub full : List Item → List Item
+full [] = []
+full (items.Access a ∷ is) = items.Access (record a { place = 0 }) ∷ full is
+full (items.Fence f ∷ is) = with_full f.kind (full is)
+full (items.Input t ∷ is) = items.Input (record t { place = 0 }) ∷ full is
+full (items.Output t ∷ is) = items.Output (record t { place = 0 }) ∷ full is
+
+-- accesses with the places of their instructions, inputs and outputs, and the full fences between
+abbrev pub placed_full : List Item → List Item
+placed_full [] = []
+placed_full (items.Access a ∷ is) = items.Access a ∷ placed_full is
+placed_full (items.Fence f ∷ is) = with_full f.kind (placed_full is)
+placed_full (items.Input t ∷ is) = items.Input (record t { place = 0 }) ∷ placed_full is
+placed_full (items.Output t ∷ is) = items.Output (record t { place = 0 }) ∷ placed_full is
+
 -- everything, as it is
 abbrev pub all_items : List Item → List Item
 all_items is = is

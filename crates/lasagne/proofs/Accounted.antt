@@ -7,7 +7,7 @@ use Rattle.ev_graph.specs.declared.events.Access.{Access}
 use Rattle.ev_graph.specs.declared.events.End.{End}
 use Rattle.ev_graph.specs.declared.events.EventId.{EventId}
 use Rattle.ev_graph.specs.declared.events.FenceItem.{FenceItem}
-use Rattle.ev_graph.specs.declared.events.FenceKind.TheVariants.{DmbFull}
+use Rattle.ev_graph.specs.declared.events.FenceKind.TheVariants.{DmbFull, Mfence}
 use Rattle.ev_graph.specs.declared.events.Item.{Item}
 use Rattle.ev_graph.specs.declared.events.Item.TheVariants as item
 use Rattle.ev_graph.specs.declared.execution.Execution.{Execution}
@@ -15,7 +15,7 @@ use Rattle.ev_graph.specs.declared.execution.Stack.{Stack}
 use Rattle.ev_graph.specs.declared.execution.ThreadRun.{ThreadRun}
 use Rattle.ev_graph.specs.Memory.{cells_of, memory, Fits}
 use Rattle.ev_graph.specs.Start.{start_at}
-use Rattle.ev_graph.specs.Events.{Event, events, accesses, items_of, IsIn, IsLocked}
+use Rattle.ev_graph.specs.Events.{Event, events, accesses, items_of, IsIn, IsLocked, FenceBetween}
 use Rattle.ev_graph.specs.WellFormed.{is_write, WellFormed}
 use Rattle.ev_graph.proofs.Threads.{items_of_some, items_of_none}
 use Rattle.order_models.specs.Orders.{Arm, Tso}
@@ -25,28 +25,31 @@ use Rattle.graph_maps.proofs.ToTso.{arm_is_tso_lem}
 use Rattle.graph_maps.proofs.Sources.{well_formed_has_sources_lem}
 use Rattle.behavior.specs.Acts.{Permission}
 use Rattle.behavior.specs.Run.{Run}
-use Rattle.behavior.specs.Seen.{trace, given, counted, lowered}
+use Rattle.behavior.specs.Seen.{trace, given, counted, lowered, full}
 use Rattle.behavior.specs.Numbered.{numbered}
-use Rattle.behavior.specs.Kept.{Backward}
+use Rattle.behavior.specs.Kept.{Backward, BackwardBy}
 use Rattle.behavior.specs.Explained.{Explains}
-use Rattle.behavior.proofs.Explanations.{explained, explanation_trace}
+use Rattle.behavior.proofs.Explanations.{explained, explanation_trace, explanation_first}
 use Rattle.behavior.proofs.Makes.{run_makes}
+use Rattle.behavior.proofs.SeenLemmas.{full-to_trace}
 use Rattle.behavior.proofs.NumberedLemmas.{trace-numbered, given-numbered, counted-numbered, all-numbered}
-use Rattle.x64_table.specs.declared.narrow.PlacedNarrow.{PlacedNarrow}
-use Rattle.x64_table.specs.Machine.{X64, no_sites}
-use Rattle.x64_table.proofs.MachineLemmas.{x64_step_open, IsPlain, x64_plain}
+use Rattle.x64_syntax.specs.declared.placed.Placed.{Placed}
+use Rattle.x64_table.specs.State.{Thread}
+use Rattle.x64_table.specs.Machine.{no_sites}
 use Rattle.a64_table.proofs.BarrierLemmas.{IsBarred, a64_barred}
-use Rattle.straight_line.specs.Line.{placed_in}
+use Rattle.line_read.specs.Line.{IsLine, IsStraight, IsTranslated, placed_in}
+use Rattle.line_read.proofs.CallerLemmas.{one_line}
 use Rattle.straight_line.specs.Guarded.{Guarded}
-use Rattle.lasagne.specs.ElfFile.{segments_of, threads_of}
-use Rattle.lasagne.specs.ImageFile.{code_part}
-use Rattle.lasagne.specs.Carries.{kept}
-use Rattle.lasagne.specs.Lines.{IsLine}
+use Rattle.straight_line.proofs.PlainRows.{IsPlain}
+use Rattle.straight_line.proofs.LineMakes.{line_open, line_makes}
+use Rattle.elf_read.specs.ElfFile.{segments_of, threads_of}
+use Rattle.elf_write.specs.Image.{code_part, kept}
 use Rattle.lasagne.specs.Threads.{x64_start, a64_start, allowed, x64_thread, a64_thread, OnThreads, OfEachThread}
 use Rattle.lasagne.specs.Executions.{IsRunOf, IsInputThread, IsInputExecution, IsImageExecution}
 use Rattle.lasagne.specs.Explained.{ExplainsThread, IsExplanation, Accounts}
 use Rattle.lasagne.proofs.Barriers.{Mapped, guarded_mapped, mapped_read, mapped_writes, guarded-numbered}
 use Rattle.lasagne.proofs.SameThreads.{AreAlike, same_events, StartsAlike, same_form, same_final}
+use Rattle.lasagne.proofs.FullFences.{full_between}
 use Rattle.lasagne.proofs.StartBytes.{same_start, allowed_some}
 
 -- each run of the target is guarded by its fences
@@ -58,8 +61,9 @@ pub record Facts (input image : List ℕ) (code : ℕ) (words : List ℕ) : Type
   pub parts : segments_of image ≡ kept (segments_of input) ++ code_part code words ∷ []
   pub count : length (threads_of image) ≡ length (threads_of input)
   pub layouts : (stacks : List Stack) → Fits (segments_of image) (length (threads_of image)) stacks → Fits (segments_of input) (length (threads_of input)) stacks
-  pub lines : (k at : ℕ) → slice_get (threads_of input) k ≡ Some at → (line : List PlacedNarrow) × IsLine (segments_of input) at line
+  pub lines : (k at : ℕ) → slice_get (threads_of input) k ≡ Some at → (line : List Placed) × IsLine (segments_of input) at line × AllByRecursion IsTranslated line
   pub backward : OfEachThread input image code words Backward
+  pub full_backward : OfEachThread input image code words (BackwardBy full)
   pub guarded : OfEachThread input image code words IsGuarded
 
 get_within : {A : Type 0} (xs : List A) (k : ℕ) → k < length xs → (x : A) × (slice_get xs k ≡ Some x)
@@ -93,7 +97,7 @@ module _ (input image : List ℕ) (code : ℕ) (words : List ℕ) (facts : Facts
       record { from = from.0; to = to.0; stack = stack.0; at_from = from.1; at_to = to.1; at_stack = stack.1 }
 
   -- the explanation of a thread is one of the run before its accesses were named
-  unnamed : (line : List PlacedNarrow) (stacks : List Stack) (k : ℕ) (s : X64) (end : End) (items made named : List Item) → named ≡ numbered k made
+  unnamed : (line : List Placed) (stacks : List Stack) (k : ℕ) (s : Thread) (end : End) (items made named : List Item) → named ≡ numbered k made
       → Explains (x64_thread (segments_of input) stacks line) s named end items → Explains (x64_thread (segments_of input) stacks line) s made end items
   unnamed line stacks k s end items made named names explains =
       let values = ap given names ∙ given-numbered k 0 made in
@@ -104,6 +108,12 @@ module _ (input image : List ℕ) (code : ℕ) (words : List ℕ) (facts : Facts
         fewest = λ other same. explains.fewest other (record { begun = same.begun; run = same.run; values = same.values ∙ sym values; many = same.many ∙ sym many });
       }
 
+  -- each instruction of a thread's line is translated so far
+  all_translated : (k at : ℕ) (line : List Placed) → slice_get (threads_of input) k ≡ Some at → IsLine (segments_of input) at line → AllByRecursion IsTranslated line
+  all_translated k at line begins stands =
+      let mine = facts.lines k at begins in
+      subst (AllByRecursion IsTranslated) (one_line (segments_of input) mine.0 line at mine.1 stands) mine.2
+
   explained_thread : (x y : Execution) → IsImageExecution image code words x → IsExplanation input x y → (k : ℕ) (a b : ThreadRun)
       → slice_get x.threads k ≡ Some a → slice_get y.threads k ≡ Some b → Explained input image code words x k a b
   explained_thread x y is explains k a b here there =
@@ -112,7 +122,8 @@ module _ (input image : List ℕ) (code : ℕ) (words : List ℕ) (facts : Facts
       let source = explains.threads k place.from place.stack a b place.at_from place.at_stack here there in
       let may = allowed (segments_of input) x.stacks in
       let backward = facts.backward x.stacks is.fits k place.from place.to place.stack source.line place.at_from place.at_to place.at_stack source.stands in
-      let traced = explanation_trace (x64_thread (segments_of input) x.stacks source.line) (x64_step_open may (placed_in source.line) no_sites)
+      let translated = all_translated k place.from source.line place.at_from source.stands in
+      let traced = explanation_trace (x64_thread (segments_of input) x.stacks source.line) (line_open may source.line no_sites translated)
       (a64_thread (segments_of image) x.stacks code words) (x64_start k place.stack place.from) (a64_start k place.stack place.to) backward ran.run (unnamed source.line x.stacks k (x64_start k place.stack place.from) a.end source.items ran.made a.items ran.items source.explains) in
       record {
         place = place;
@@ -154,7 +165,7 @@ module _ (input image : List ℕ) (code : ℕ) (words : List ℕ) (facts : Facts
     alike : AreAlike x.threads y.threads
     alike t = each_number (λ xs ys. trace xs ≡ trace ys) refl (λ k a b here there. sym (explained_thread x y is explains k a b here there).same) t
 
-    -- the explanation's accesses are unlocked and allowed, and it has no fence
+    -- the explanation's accesses are unlocked and allowed
     plain : (t : ℕ) → AllByRecursion (IsPlain (allowed (segments_of input) x.stacks)) (items_of y.threads t)
     plain t = each_number (λ xs ys. AllByRecursion (IsPlain may) ys) tt thread t
       where
@@ -163,10 +174,12 @@ module _ (input image : List ℕ) (code : ℕ) (words : List ℕ) (facts : Facts
 
         thread : (k : ℕ) (a b : ThreadRun) → slice_get x.threads k ≡ Some a → slice_get y.threads k ≡ Some b → AllByRecursion (IsPlain may) b.items
         thread k a b here there =
-            let source = (explained_thread x y is explains k a b here there).source in
+            let one = explained_thread x y is explains k a b here there in
+            let source = one.source in
+            let translated = all_translated k one.place.from source.line one.place.at_from source.stands in
             subst (AllByRecursion (IsPlain may)) (sym source.named)
             (all-numbered (IsPlain may) (λ c t i known. known) k 0 source.items
-            (run_makes (IsPlain may) (x64_plain may (placed_in source.line) no_sites) source.explains.is_on_same.run))
+            (run_makes (IsPlain may) (line_makes may source.line no_sites translated) source.explains.is_on_same.run))
 
     -- the image's fences are DMBs, and they stand where they are needed
     barred : (t : ℕ) → AllByRecursion IsBarred (items_of x.threads t)
@@ -201,17 +214,33 @@ module _ (input image : List ℕ) (code : ℕ) (words : List ℕ) (facts : Facts
     abbrev no_private : EventId → Bool
     no_private id = false
 
-    no_fence : (xs : List Item) (may : Permission) (place : ℕ) (f : FenceItem) → AllByRecursion (IsPlain may) xs → slice_get xs place ≡ Some (item.Fence f) → ⊥
-    no_fence [] may place f all here = absurd cc
-    no_fence (x ∷ xs) may zero f all here = subst (IsPlain may) (same here) all.0
+    -- where the explanation has an MFENCE the image has a full barrier
+    full_fences : (t m n : ℕ) → FenceBetween Mfence (items_of y.threads t) m n → FenceBetween DmbFull (items_of x.threads t) m n
+    full_fences t m n = each_number (λ xs ys. FenceBetween Mfence ys m n → FenceBetween DmbFull xs m n) nothing thread t
       where
-        same : {A : Type 0} {u v : A} → Some u ≡ Some v → u ≡ v
-        same e = cc
-    no_fence (x ∷ xs) may (suc place) f all here = no_fence xs may place f all.1 here
+        nothing : FenceBetween Mfence [] m n → FenceBetween DmbFull [] m n
+        nothing fenced = absurd (none fenced.here)
+          where
+            none : {i : Item} → None ≡ Some i → ⊥
+            none e = absurd cc
+
+        thread : (k : ℕ) (a b : ThreadRun) → slice_get x.threads k ≡ Some a → slice_get y.threads k ≡ Some b → FenceBetween Mfence b.items m n → FenceBetween DmbFull a.items m n
+        thread k a b here there fenced =
+            let one = explained_thread x y is explains k a b here there in
+            let place = one.place in
+            let source = one.source in
+            let may = allowed (segments_of input) x.stacks in
+            let translated = all_translated k place.from source.line place.at_from source.stands in
+            let backward = facts.full_backward x.stacks is.fits k place.from place.to place.stack source.line place.at_from place.at_to place.at_stack source.stands in
+            let first = explanation_first (x64_thread (segments_of input) x.stacks source.line) (line_open may source.line no_sites translated) full full-to_trace
+            (a64_thread (segments_of image) x.stacks code words) (x64_start k place.stack place.from) (a64_start k place.stack place.to) backward one.ran.run
+            (unnamed source.line x.stacks k (x64_start k place.stack place.from) a.end source.items one.ran.made a.items one.ran.items source.explains) in
+            let own : AllByRecursion IsBarred one.ran.made = run_makes IsBarred (a64_barred (allowed (segments_of image) x.stacks) code words) one.ran.run in
+            subst (λ l. FenceBetween DmbFull l m n) (sym one.ran.items)
+            (full_between k k source.items first.1 one.ran.made m n (ap full (sym first.2) ∙ first.3) own (subst (λ l. FenceBetween Mfence l m n) source.named fenced))
 
     no_mfences : MfencesFrom DmbFull no_private x y
-    no_mfences a b first second order one other fenced =
-        absurd (no_fence (items_of y.threads a.id.thread) (allowed (segments_of input) x.stacks) fenced.place fenced.fence (plain a.id.thread) fenced.here)
+    no_mfences a b first second order one other fenced = full_fences a.id.thread a.id.index b.id.index fenced
 
     unlocked_at : (xs : List Item) (may : Permission) (n : ℕ) (a : Event) → AllByRecursion (IsPlain may) xs → slice_get (events xs) n ≡ Some a → a.locked ≡ false
     unlocked_at [] may n a all here = absurd cc
@@ -220,7 +249,7 @@ module _ (input image : List ℕ) (code : ℕ) (words : List ℕ) (facts : Facts
         same : {A : Type 0} {u v : A} → Some u ≡ Some v → u ≡ v
         same e = cc
     unlocked_at (item.Access c ∷ xs) may (suc n) a all here = unlocked_at xs may n a all.1 here
-    unlocked_at (item.Fence f ∷ xs) may n a all here = absurd all.0
+    unlocked_at (item.Fence f ∷ xs) may n a all here = unlocked_at xs may n a all.1 here
     unlocked_at (item.Input t ∷ xs) may n a all here = absurd all.0
     unlocked_at (item.Output t ∷ xs) may n a all here = absurd all.0
 
@@ -271,7 +300,7 @@ module _ (input image : List ℕ) (code : ℕ) (words : List ℕ) (facts : Facts
         same : {A : Type 0} {u v : A} → Some u ≡ Some v → u ≡ v
         same e = cc
     allowed_at (item.Access c ∷ xs) may (suc n) a all here = allowed_at xs may n a all.1 here
-    allowed_at (item.Fence f ∷ xs) may n a all here = absurd all.0
+    allowed_at (item.Fence f ∷ xs) may n a all here = allowed_at xs may n a all.1 here
     allowed_at (item.Input t ∷ xs) may n a all here = absurd all.0
     allowed_at (item.Output t ∷ xs) may n a all here = absurd all.0
 
@@ -351,7 +380,7 @@ module _ (input image : List ℕ) (code : ℕ) (words : List ℕ) (facts : Facts
       let line = facts.lines k place.from place.at_from in
       let may = allowed (segments_of input) x.stacks in
       let backward = facts.backward x.stacks is.fits k place.from place.to place.stack line.0 place.at_from place.at_to place.at_stack line.1 in
-      let one = explained (x64_thread (segments_of input) x.stacks line.0) (x64_step_open may (placed_in line.0) no_sites)
+      let one = explained (x64_thread (segments_of input) x.stacks line.0) (line_open may line.0 no_sites line.2)
       (a64_thread (segments_of image) x.stacks code words) (x64_start k place.stack place.from) (a64_start k place.stack place.to) backward ran.run in
       let values = ap given ran.items ∙ given-numbered k 0 ran.made in
       let many = ap counted ran.items ∙ counted-numbered k 0 ran.made in

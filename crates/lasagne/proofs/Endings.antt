@@ -3,29 +3,40 @@ use Rattle.std.proofs.Common.{◌≡◌, ℕ, ◌<◌, ◌≤◌, List, [], ◌�
 use Rattle.std.specs.Prelude.{Option, Some, None, IfSome, codes}
 use Rattle.lasagne.specs.declared.command.Status.{Status}
 use Rattle.lasagne.specs.declared.command.Status.TheVariants as status
-use Rattle.lasagne.specs.Ports.{Files, Rose, IsPut, IsTorn, IsLonger, Told, Took, TookPart}
-use Rattle.lasagne.specs.Accepted.{HasNoFault}
+use Rattle.lz_ports.specs.Ports.{Files, Rose, IsPut, IsTorn, IsLonger, Told, Took, TookPart}
+use Rattle.elf_read.specs.declared.fault.FileFault.{FileFault}
+use Rattle.elf_read.specs.declared.fault.FileFault.TheVariants as file
+use Rattle.elf_read.specs.FileFaults.{Holds}
+use Rattle.elf_read.specs.FirstFault.{rank, Before, IsFirst}
+use Rattle.lasagne.specs.declared.translation.TranslateFault.{TranslateFault}
+use Rattle.lasagne.specs.declared.translation.TranslateFault.TheVariants.{File}
+use Rattle.lasagne.specs.Accepted.{IsRefusedFor}
 use Rattle.lasagne.specs.Carries.{CarriesInArm}
-use Rattle.lasagne.specs.Texts.{unbuilt_line}
-use Rattle.lasagne.specs.Command.{World, Ends, Answers, HasFault, IsSaid, OfImage, SameFiles}
-use Rattle.lasagne.proofs.Narrow.{length-narrow}
+use Rattle.lasagne.specs.Command.{World, Ends, Answers, IsTold, OfImage, SameFiles}
 
 -- a count that rose later rose
 pub rose_later : (a b c : ℕ) → a ≤ b → Rose b c → Rose a c
 rose_later a b c low rose = omega (arith, rose)
 
--- a file that is too long has a fault
-pub longer_has_fault : (files : Option Files) (name : List ℕ) (limit before now : ℕ) → limit ≡ 67108864
-    → IfSome files (λ f. IsLonger f name limit × (Rose before now → ⊥)) → IfSome files (λ f. (bytes : List ℕ) × (f name ≡ Some bytes) × (HasNoFault bytes → ⊥))
-longer_has_fault None name limit before now e longer = longer
-longer_has_fault (Some f) name limit before now e longer =
-    (longer.0.bytes, longer.0.here, (λ fault. omega (arith, e, longer.0.longer, length-narrow longer.0.bytes fault)))
+-- a file that is too long has that fault first
+longer_is_first : (bytes : List ℕ) → 67108864 < length bytes → IsFirst (Holds bytes) 1 13 file.TooLong
+longer_is_first bytes long = record { holds = long; from = omega arith; below = omega arith; first = λ g from before holds. none g from before }
+  where
+    none : (g : FileFault) → 1 ≤ rank g → Before g file.TooLong → ⊥
+    none g from (inl less) = absurd (omega (arith, from, less))
+    none g from (inr (same, less)) = absurd (omega (arith, less))
 
--- so has one that was not translated
-pub unbuilt_has_fault : (files : Option Files) (name items bytes : List ℕ) → bytes ≡ items → (HasNoFault bytes → ⊥)
-    → IfSome files (λ f. f name ≡ Some items) → IfSome files (λ f. (bytes : List ℕ) × (f name ≡ Some bytes) × (HasNoFault bytes → ⊥))
-unbuilt_has_fault None name items bytes same none read = read
-unbuilt_has_fault (Some f) name items bytes same none read = (items, read, (λ fault. none (subst HasNoFault (sym same) fault)))
+pub longer_refused : (files : Option Files) (name : List ℕ) (limit before now : ℕ) → limit ≡ 67108864
+    → IfSome files (λ f. IsLonger f name limit × (Rose before now → ⊥)) → IfSome files (λ f. (bytes : List ℕ) × (f name ≡ Some bytes) × IsRefusedFor bytes (File file.TooLong))
+longer_refused None name limit before now e longer = longer
+longer_refused (Some f) name limit before now e longer =
+    (longer.0.bytes, longer.0.here, longer_is_first longer.0.bytes (let long = longer.0.longer in omega (arith, e, long)))
+
+-- so has one that was not translated the fault for which it was not
+pub fault_refused : (files : Option Files) (name items bytes : List ℕ) (why : TranslateFault) → bytes ≡ items → IsRefusedFor bytes why
+    → IfSome files (λ f. f name ≡ Some items) → IfSome files (λ f. (bytes : List ℕ) × (f name ≡ Some bytes) × IsRefusedFor bytes why)
+fault_refused None name items bytes why same refused read = read
+fault_refused (Some f) name items bytes why same refused read = (items, read, subst (λ b. IsRefusedFor b why) same refused)
 
 -- what was read, under another name for the same bytes
 pub read_same : (files : Option Files) (name items bytes : List ℕ) → bytes ≡ items → IfSome files (λ f. f name ≡ Some items) → IfSome files (λ f. f name ≡ Some bytes)
@@ -33,10 +44,12 @@ read_same None name items bytes same read = read
 read_same (Some f) name items bytes same read = read ∙ ap Some (sym same)
 
 -- the end of a refusal
-pub refused : (result : Status) (from to : List ℕ) (old new : World) → HasFault from old → SameFiles old new
-    → IsSaid unbuilt_line status.Refused old.taken old.sink_faults new.taken new.sink_faults result → Ends result from to old new
-refused result from to old new fault same (inl said) = subst (λ s. Ends s from to old new) (sym said.0) (fault, same, said.1)
-refused result from to old new fault same (inr none) = subst (λ s. Ends s from to old new) (sym none.0) (none.1, inl same)
+pub refused : (result : Status) (from to : List ℕ) (old new : World) (why : TranslateFault)
+    → IfSome old.files (λ files. (bytes : List ℕ) × (files from ≡ Some bytes) × IsRefusedFor bytes why) → SameFiles old new
+    → IsTold why old.taken old.sink_faults new.taken new.sink_faults result → Ends result from to old new
+refused result from to old new why fault same (inl (some, inl said)) = subst (λ s. Ends s from to old new) (sym said.0) (same, (why, (some, fault), said.1))
+refused result from to old new why fault same (inl (some, inr none)) = subst (λ s. Ends s from to old new) (sym none.0) (none.1, inl same)
+refused result from to old new why fault same (inr none) = subst (λ s. Ends s from to old new) (sym none.0) (none.1, inl same)
 
 -- an image that was made of what was read
 pub of_image : {P : List ℕ → List ℕ → Type 0} (from : List ℕ) (old : World) (items input image : List ℕ) → input ≡ items

@@ -9,8 +9,7 @@ use Rattle.std.proofs.lemmas.Nat.Bits.{bit_at_and, bit_at-lt}
 use Rattle.ev_graph.specs.declared.execution.Stack.{Stack}
 use Rattle.ev_graph.specs.Memory.{Cell, Part, has_flag, cell_in, or_else, cells_of, stack_part, memory, permits, allows, IsOffStacks}
 use Rattle.behavior.specs.Acts.{Permission}
-use Rattle.lasagne.specs.Carries.{kept}
-use Rattle.lasagne.specs.ImageFile.{code_part}
+use Rattle.elf_write.specs.Image.{code_part, kept}
 use Rattle.lasagne.specs.Threads.{allowed}
 
 -- an address is in a part, or the part has no cell there

@@ -1,30 +1,23 @@
--- The threads of an input and of its image, where one line and its words are all that there is.
-use Rattle.std.proofs.Common.{◌≡◌, ℕ, zero, suc, ◌-◌, ◌^◌, ◌<◌, ◌==◌, Bool, true, false, List, [], ◌∷◌, ◌++◌, Some, arith, sym, ◌∙◌, ap, refl, subst}
+-- The threads of an input and of its image.
+use Rattle.std.proofs.Common.{◌≡◌, ℕ, zero, suc, ◌-◌, ◌^◌, ◌<◌, ◌≤◌, ◌==◌, Bool, true, false, List, [], ◌∷◌, ◌++◌, length, Some, arith, sym, ◌∙◌, ap, refl, subst}
 use Rattle.std.specs.Prelude.{if◌then◌else◌, slice_get}
 use Rattle.std.specs.List.{AllByRecursion}
+use Rattle.std.proofs.lemmas.Option.{slice_get_within}
 use Rattle.ev_graph.specs.declared.execution.Stack.{Stack}
 use Rattle.ev_graph.specs.Memory.{IsStack, IsOffStacks}
 use Rattle.behavior.specs.Acts.{Permission}
-use Rattle.x64_table.specs.declared.narrow.PlacedNarrow.{PlacedNarrow}
-use Rattle.x64_table.specs.Machine.{X64, x64_step, no_sites}
+use Rattle.x64_syntax.specs.declared.placed.Placed.{Placed}
+use Rattle.x64_table.specs.State.{Thread}
+use Rattle.x64_table.specs.Machine.{x64_step, no_sites}
 use Rattle.a64_table.specs.Machine.{AThread, a64_step}
-use Rattle.straight_line.specs.Line.{placed_in}
-use Rattle.straight_line.specs.Carried.{Starts}
-use Rattle.lasagne.specs.ElfFile.{segments_of, threads_of}
-use Rattle.lasagne.specs.ImageFile.{code_part}
-use Rattle.lasagne.specs.Carries.{kept}
-use Rattle.lasagne.specs.Lines.{IsLine}
+use Rattle.ev_graph.specs.Memory.{Part}
+use Rattle.elf_read.specs.ElfFile.{segments_of, threads_of}
+use Rattle.elf_write.specs.Image.{code_part, kept}
+use Rattle.line_read.specs.Line.{IsLine, IsStraight, Stand, placed_in}
+use Rattle.line_read.proofs.CallerLemmas.{one_line, line_found}
+use Rattle.straight_line.specs.Carried.{Starts, CarriesLine}
 use Rattle.lasagne.specs.Threads.{start_bank, x64_start, a64_start, allowed, x64_thread, a64_thread, OnThreads, OfEachThread}
-use Rattle.lasagne.proofs.Lined.{same_line}
 use Rattle.lasagne.proofs.Permitted.{same_allowed}
-
--- a list of one has one element
-pub only_one : (a k b : ℕ) → slice_get (a ∷ []) k ≡ Some b → (k ≡ 0) × (b ≡ a)
-only_one a zero b e = (refl, same b a e)
-  where
-    same : (b a : ℕ) → Some a ≡ Some b → b ≡ a
-    same b a e = cc
-only_one a (suc k) b e = absurd cc
 
 all_get : {A : Type 0} (P : A → Type 0) (xs : List A) (k : ℕ) (x : A) → AllByRecursion P xs → slice_get xs k ≡ Some x → P x
 all_get P [] k x all e = absurd cc
@@ -43,32 +36,35 @@ bank_fits k stack low placed n = by_tests (n == 4) (n == 7)
     by_tests false true = low
     by_tests false false = omega arith
 
-pub start_alike : (first code k : ℕ) (stack : Stack) (from to : ℕ) → from ≡ first → to ≡ code → k < 2 ^ 64 → IsStack stack → Starts first code (x64_start k stack from) (a64_start k stack to)
-start_alike first code k stack from to source target low placed = record {
-  source_at = source;
-  target_at = target;
-  same = λ n lt. refl;
-  fit = bank_fits k stack low placed;
-}
+pub start_alike : (k : ℕ) (stack : Stack) (from to : ℕ) → k < 2 ^ 64 → IsStack stack → Starts from to (x64_start k stack from) (a64_start k stack to)
+start_alike k stack from to low placed = record { source_at = refl; target_at = refl; same = λ n lt. refl; fit = bank_fits k stack low placed }
+
+-- the words of a code segment carry the line that stands where a thread of the input begins, from where that of the image begins on
+pub record Carried (parts : List Part) (address : ℕ) (words : List ℕ) (from to : ℕ) : Type 0 where
+  pub line : List Placed
+  pub stands : IsLine parts from line
+  pub straight : IsStraight from line
+  pub carries : CarriesLine from line address words to
 
 -- What holds of a line and its words in any memory holds of each thread of the input and of the image.
-pub each_thread : (Claim : OnThreads) (input image : List ℕ) (address : ℕ) (words : List ℕ) (first : ℕ) (line : List PlacedNarrow)
-    → threads_of input ≡ first ∷ [] → threads_of image ≡ address ∷ [] → segments_of image ≡ kept (segments_of input) ++ code_part address words ∷ []
-    → IsLine (segments_of input) first line
-    → ((may : Permission) (s : X64) (t : AThread) → Starts first address s t → Claim (x64_step may (placed_in line) no_sites) s (a64_step may address words) t)
+pub each_thread : (Claim : OnThreads) (input image : List ℕ) (address : ℕ) (words : List ℕ)
+    → length (threads_of input) ≤ 16 → segments_of image ≡ kept (segments_of input) ++ code_part address words ∷ []
+    → ((k from to : ℕ) → slice_get (threads_of input) k ≡ Some from → slice_get (threads_of image) k ≡ Some to → Carried (segments_of input) address words from to)
+    → ((from to : ℕ) (line : List Placed) → Stand (placed_in line) line → CarriesLine from line address words to → (may : Permission) (s : Thread) (t : AThread) → Starts from to s t
+    → Claim (x64_step may (placed_in line) no_sites) s (a64_step may address words) t)
     → OfEachThread input image address words Claim
-each_thread Claim input image address words first line begins begun parts here claim stacks fits k from to stack other at_from at_to at_stack stands =
-    let source = only_one first k from (subst (λ l. slice_get l k ≡ Some from) begins at_from) in
-    let target = only_one address k to (subst (λ l. slice_get l k ≡ Some to) begun at_to) in
+each_thread Claim input image address words few parts carried claim stacks fits k from to stack other at_from at_to at_stack stands =
+    let one = carried k from to at_from at_to in
     let placed : IsStack stack = all_get IsStack stacks k stack fits.well_placed at_stack in
-    let low : k < 2 ^ 64 = omega (arith, source.0) in
-    let starts = start_alike first address k stack from to source.1 target.1 low placed in
+    let low : k < 2 ^ 64 = omega (arith, slice_get_within (threads_of input) k from at_from, few) in
+    let starts = start_alike k stack from to low placed in
     let off : AllByRecursion (IsOffStacks stacks) (kept (segments_of input) ++ code_part address words ∷ []) = subst (AllByRecursion (IsOffStacks stacks)) parts fits.off_parts in
     let may : Permission = allowed (segments_of input) stacks in
     let same : may ≡ allowed (segments_of image) stacks =
     sym (ap (λ ps. allowed ps stacks) parts ∙ same_allowed (segments_of input) address words stacks off) in
-    let lines : line ≡ other = same_line (segments_of input) line other first here (subst (λ at. IsLine (segments_of input) at other) source.1 stands) in
+    let lines : one.line ≡ other = one_line (segments_of input) one.line other from one.stands stands in
     let s = x64_start k stack from in
     let t = a64_start k stack to in
     subst (λ l. Claim (x64_thread (segments_of input) stacks l) s (a64_thread (segments_of image) stacks address words) t) lines
-    (subst (λ m. Claim (x64_step may (placed_in line) no_sites) s (a64_step m address words) t) same (claim may s t starts))
+    (subst (λ m. Claim (x64_step may (placed_in one.line) no_sites) s (a64_step m address words) t) same
+    (claim from to one.line (line_found from one.line one.straight.stands) one.carries may s t starts))

@@ -7,8 +7,7 @@ use Rattle.ev_graph.specs.declared.execution.Stack.{Stack}
 use Rattle.ev_graph.specs.Memory.{Cell, Part, has_flag, cell_in, or_else, cells_of, stack_part, memory, permits, allows, IsOffStacks}
 use Rattle.ev_graph.specs.Start.{start_at}
 use Rattle.ev_graph.proofs.CallerLemmas.{memory-with_stacks}
-use Rattle.lasagne.specs.Carries.{kept}
-use Rattle.lasagne.specs.ImageFile.{code_part}
+use Rattle.elf_write.specs.Image.{code_part, kept}
 use Rattle.lasagne.proofs.Permitted.{in_bounds, empty_none, off_none, last_part}
 
 -- the byte of a cell, where there is one

@@ -1,16 +1,28 @@
--- The files that are translated so far: narrow files whose code is a straight line. Every other file has the fault Unbuilt.
-use Rattle.std.specs.Prelude.{◌≡◌, ◌≤◌, ℕ, List, length}
-use Rattle.x64_table.specs.declared.narrow.PlacedNarrow.{PlacedNarrow}
-use Rattle.straight_line.specs.Line.{IsLineOf}
-use Rattle.lasagne.specs.BuiltFile.{narrow_file}
+-- Which files are translated so far, and for which fault a file is refused.
+use Rattle.std.specs.Prelude.{◌≡◌, ◌≤◌, ℕ, List}
+use Rattle.elf_read.specs.ElfFile.{segments_of, threads_of, address_of, input_name, output_name}
+use Rattle.elf_read.specs.FileFaults.{Holds}
+use Rattle.elf_read.specs.FirstFault.{Clear, IsFirst}
+use Rattle.line_read.specs.Line.{Code, IsUnbuilt}
+use Rattle.lasagne.specs.declared.translation.TranslateFault.{TranslateFault}
+use Rattle.lasagne.specs.declared.translation.TranslateFault.TheVariants.{File, UnbuiltCode, NoMemory}
 
--- A file that has no fault: its code, of at most 4,096 bytes, is a list of narrow instructions, of which the last, and no
--- other, is a return; and it has 64 cells.
+-- the code of a file
+abbrev pub file_code : List ℕ → Code
+file_code bytes = record { parts = segments_of bytes; input = address_of bytes input_name; output = address_of bytes output_name }
+
+-- no fault of files holds of the bytes
+abbrev pub IsSound : List ℕ → Type 0
+IsSound bytes = Clear (Holds bytes) 1 13
+
+-- A file that has no fault: none of files, and each thread's line is translated so far.
 pub record HasNoFault (bytes : List ℕ) : Type 0 where
-  pub code : List ℕ
-  pub cells : List ℕ
-  pub line : List PlacedNarrow
-  pub is_line : IsLineOf 0x401000 code line
-  pub code_count : length code ≤ 4096
-  pub cell_count : length cells ≡ 64
-  pub file : bytes ≡ narrow_file code cells
+  pub sound : IsSound bytes
+  pub built : (address : ℕ) → IsUnbuilt (file_code bytes) (threads_of bytes) address → ⊥
+
+-- The file is refused for this fault: the first of files that holds, and where none does, the first thread that is not
+-- translated so far.
+abbrev pub IsRefusedFor : List ℕ → TranslateFault → Type 0
+IsRefusedFor bytes (File f) = IsFirst (Holds bytes) 1 13 f
+IsRefusedFor bytes (UnbuiltCode address) = IsSound bytes × IsUnbuilt (file_code bytes) (threads_of bytes) address
+IsRefusedFor bytes NoMemory = Unit {0}

@@ -1,14 +1,16 @@
 -- How a call ends: for each status when it comes, and what it leaves.
-use Rattle.std.specs.Prelude.{◌≡◌, ◌⊎◌, ℕ, List, [], ◌∷◌, codes, Option, Some, IfSome}
+use Rattle.std.specs.Prelude.{◌≡◌, ◌≢◌, ◌⊎◌, ℕ, List, [], ◌∷◌, codes, Option, Some, IfSome}
 use Rattle.lasagne.specs.declared.command.Status.{Status}
 use Rattle.lasagne.specs.declared.command.Status.TheVariants.{Done, Refused, Usage, ReadFailed, WriteFailed, NoMemory, NotExplained, OutFailed}
 use Rattle.lasagne.specs.declared.plan.Summary.{Summary}
-use Rattle.lasagne.specs.Ports.{Files, Rose, IsPut, IsTorn, Told, Took, TookPart}
-use Rattle.lasagne.specs.Accepted.{HasNoFault}
+use Rattle.lz_ports.specs.Ports.{Files, Rose, IsPut, IsTorn, Told, Took, TookPart}
+use Rattle.lasagne.specs.declared.translation.TranslateFault.{TranslateFault}
+use Rattle.lasagne.specs.declared.translation.TranslateFault.TheVariants as fault
+use Rattle.lasagne.specs.Accepted.{IsRefusedFor}
 use Rattle.lasagne.specs.Carries.{CarriesInArm}
 use Rattle.lasagne.specs.Counting.{nothing}
 use Rattle.lasagne.specs.Lines.{HasSummary}
-use Rattle.lasagne.specs.Texts.{usage_line, unbuilt_line, translated_line}
+use Rattle.lasagne.specs.Texts.{usage_line, refused_line, translated_line}
 
 -- What is told of the outside at a moment: the files, what the sink has taken, and the two counts of faults.
 pub record World : Type 0 where
@@ -49,14 +51,18 @@ abbrev pub HasImageAnd : List ℕ → List ℕ → World → World → (Summary 
 HasImageAnd from to old new P =
     OfImage from old (λ input image. Told old.files new.files (IsPut to image) × (summary : Summary) × HasSummary nothing input summary × P summary)
 
--- the bytes under IN, where they are told, are none that are translated
-abbrev pub HasFault : List ℕ → World → Type 0
-HasFault from old = IfSome old.files (λ files. (bytes : List ℕ) × (files from ≡ Some bytes) × (HasNoFault bytes → ⊥))
+-- the bytes under IN, where they are told, are refused for this fault
+abbrev pub HasFault : List ℕ → World → TranslateFault → Type 0
+HasFault from old why = (why ≢ fault.NoMemory) × IfSome old.files (λ files. (bytes : List ℕ) × (files from ≡ Some bytes) × IsRefusedFor bytes why)
+
+-- the file under IN is refused for a fault, and a line tells it
+abbrev pub IsRefusal : List ℕ → World → World → Type 0
+IsRefusal from old new = (why : TranslateFault) × HasFault from old why × Says (refused_line why) old new
 
 -- The table of ends of `translate IN OUT`. Each status has its cause; want of memory alone is free.
 abbrev pub Ends : Status → List ℕ → List ℕ → World → World → Type 0
 Ends Done from to old new = HasImageAnd from to old new (λ summary. Told old.taken new.taken (Took (translated_line summary)))
-Ends Refused from to old new = HasFault from old × SameFiles old new × Says unbuilt_line old new
+Ends Refused from to old new = SameFiles old new × IsRefusal from old new
 Ends ReadFailed from to old new = Rose old.shelf_faults new.shelf_faults × SameFiles old new × SameTaken old new
 Ends WriteFailed from to old new =
     Rose old.shelf_faults new.shelf_faults × OfImage from old (λ input image. Told old.files new.files (IsTorn to image)) × SameTaken old new
@@ -77,3 +83,8 @@ abbrev pub IsSaid : List ℕ → Status → Option (List ℕ) → ℕ → Option
 IsSaid text status old before new now result =
     ((result ≡ status) × (Told old new (Took text) ⊎ (Rose before now × Told old new (TookPart text))))
     ⊎ ((result ≡ NoMemory) × (new ≡ old))
+
+-- The fault was told, which refuses, unless memory was wanting.
+abbrev pub IsTold : TranslateFault → Option (List ℕ) → ℕ → Option (List ℕ) → ℕ → Status → Type 0
+IsTold why old before new now result =
+    ((why ≢ fault.NoMemory) × IsSaid (refused_line why) Refused old before new now result) ⊎ ((result ≡ NoMemory) × (new ≡ old))

@@ -1,10 +1,11 @@
 -- What is counted of marks from one place on, for the walk that counts them.
-use Rattle.std.specs.Prelude.{ℕ, ◌+◌, Bool, true, false, List, length, count_by, Option}
+use Rattle.std.specs.Prelude.{◌≤◌, ℕ, ◌+◌, Bool, true, false, List, length, count_by, Option}
 use Rattle.x64_syntax.specs.declared.slots.Slot.{Slot}
 use Rattle.x64_syntax.specs.declared.slots.SlotKind.{SlotKind}
 use Rattle.lasagne.specs.declared.plan.Mark.{Mark}
 use Rattle.lasagne.specs.declared.plan.Gap.{Gap}
 use Rattle.lasagne.specs.declared.plan.Counts.{Counts}
+use Rattle.lasagne.specs.declared.plan.Summary.{Summary}
 use Rattle.lasagne.specs.Plan.{gaps_from, slots_of}
 
 -- no slot is private
@@ -32,3 +33,21 @@ counts_of private before fenced marks = record {
 -- counts together
 abbrev pub added : Counts → Counts → Counts
 added a b = record { accesses = a.accesses + b.accesses; frm = a.frm + b.frm; fww = a.fww + b.fww; fsc = a.fsc + b.fsc }
+
+-- each of the counts is at most this
+pub record AreAtMost (most : ℕ) (counts : Counts) : Type 0 where
+  pub accesses : counts.accesses ≤ most
+  pub frm : counts.frm ≤ most
+  pub fww : counts.fww ≤ most
+  pub fsc : counts.fsc ≤ most
+
+-- a summary with one block more, of so many instructions and with these counts
+abbrev pub with_block : Summary → (instructions : ℕ) → Counts → Summary
+with_block s instructions counts = record s {
+  instructions = s.instructions + instructions;
+  blocks = s.blocks + 1;
+  accesses = s.accesses + counts.accesses;
+  frm = s.frm + counts.frm;
+  fww = s.fww + counts.fww;
+  fsc = s.fsc + counts.fsc;
+}

@@ -9,9 +9,9 @@ use Rattle.ev_graph.specs.Memory.{Part, Fits}
 use Rattle.behavior.specs.Tree.{Tree, Next}
 use Rattle.behavior.specs.Run.{Run}
 use Rattle.behavior.specs.Numbered.{numbered}
-use Rattle.x64_table.specs.declared.narrow.PlacedNarrow.{PlacedNarrow}
-use Rattle.lasagne.specs.ElfFile.{segments_of, threads_of}
-use Rattle.lasagne.specs.Lines.{IsLine}
+use Rattle.x64_syntax.specs.declared.placed.Placed.{Placed}
+use Rattle.elf_read.specs.ElfFile.{segments_of, threads_of}
+use Rattle.line_read.specs.Line.{IsLine}
 use Rattle.lasagne.specs.Threads.{x64_start, a64_start, x64_thread, a64_thread}
 
 -- thread number k of an execution is a run of a machine from a state, cut anywhere or ended, with its accesses named
@@ -35,7 +35,7 @@ pub record IsExecution (parts : List Part) (begins : List ℕ) (IsThread : Threa
 
 -- the line that stands where the thread begins has made the run
 pub record IsInputThread (parts : List Part) (stacks : List Stack) (k at : ℕ) (stack : Stack) (thread : ThreadRun) : Type 0 where
-  pub line : List PlacedNarrow
+  pub line : List Placed
   pub stands : IsLine parts at line
   pub run : IsRunOf (x64_thread parts stacks line) (x64_start k stack at) k thread
 

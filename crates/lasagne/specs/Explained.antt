@@ -16,16 +16,16 @@ use Rattle.graph_maps.specs.Maps.{slot_kind}
 use Rattle.behavior.specs.Seen.{trace}
 use Rattle.behavior.specs.Numbered.{numbered}
 use Rattle.behavior.specs.Explained.{Explains}
-use Rattle.x64_table.specs.declared.narrow.PlacedNarrow.{PlacedNarrow}
-use Rattle.lasagne.specs.ElfFile.{segments_of, threads_of}
-use Rattle.lasagne.specs.Lines.{IsLine}
+use Rattle.x64_syntax.specs.declared.placed.Placed.{Placed}
+use Rattle.elf_read.specs.ElfFile.{segments_of, threads_of}
+use Rattle.line_read.specs.Line.{IsLine}
 use Rattle.lasagne.specs.Threads.{x64_start, x64_thread}
 use Rattle.lasagne.specs.Executions.{IsInputExecution}
 
 -- Thread b explains thread a, both with number k: it has the run of the input's thread on the values of a, with as many
 -- accesses, inputs and outputs and with a's end, that has the fewest items.
 pub record ExplainsThread (parts : List Part) (stacks : List Stack) (k at : ℕ) (stack : Stack) (a b : ThreadRun) : Type 0 where
-  pub line : List PlacedNarrow
+  pub line : List Placed
   pub stands : IsLine parts at line
   pub items : List Item
   pub explains : Explains (x64_thread parts stacks line) (x64_start k stack at) a.items a.end items

@@ -6,9 +6,14 @@ use Rattle.x64_syntax.specs.declared.slots.SlotKind.{SlotKind}
 use Rattle.x64_syntax.specs.declared.slots.SlotKind.TheVariants.{Read, Write, Locked}
 use Rattle.lasagne.specs.declared.plan.Mark.{Mark}
 use Rattle.lasagne.specs.declared.plan.Mark.TheVariants.{Access, FullFence}
-use Rattle.lasagne.specs.declared.plan.Block.{Block}
 use Rattle.lasagne.specs.declared.plan.Gap.{Gap}
 use Rattle.lasagne.specs.declared.plan.Summary.{Summary}
+
+-- A block: where it begins, how many instructions it has, and its accesses and full fences in order.
+pub record Block : Type 0 where
+  pub first : ℕ
+  pub instructions : ℕ
+  pub marks : List Mark
 
 -- whether a slot stands at a gap's end, and is of this kind
 abbrev pub is_read : Option SlotKind → Bool

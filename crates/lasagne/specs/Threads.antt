@@ -4,21 +4,21 @@ use Rattle.ev_graph.specs.declared.execution.Stack.{Stack}
 use Rattle.ev_graph.specs.Memory.{Part, memory, allows, Fits}
 use Rattle.behavior.specs.Tree.{Tree, Next}
 use Rattle.behavior.specs.Acts.{Bank, Permission}
-use Rattle.x64_table.specs.declared.narrow.PlacedNarrow.{PlacedNarrow}
-use Rattle.x64_table.specs.Machine.{X64, x64_step, no_sites}
+use Rattle.x64_syntax.specs.declared.placed.Placed.{Placed}
+use Rattle.x64_table.specs.State.{Thread}
+use Rattle.x64_table.specs.Machine.{x64_step, no_sites}
 use Rattle.a64_table.specs.Machine.{AThread, a64_step}
-use Rattle.straight_line.specs.Line.{placed_in}
-use Rattle.lasagne.specs.ElfFile.{segments_of, threads_of}
-use Rattle.lasagne.specs.Lines.{IsLine}
+use Rattle.elf_read.specs.ElfFile.{segments_of, threads_of}
+use Rattle.line_read.specs.Line.{IsLine, placed_in}
 
 -- The registers of thread k at its start, by number: the stack pointer (4) is 8 below the high end of its stack, register 7
 -- holds k, and all others are 0.
 abbrev pub start_bank : (k : ℕ) → Stack → Bank
 start_bank k stack = λ n. if n == 4 then stack.hi - 8 else (if n == 7 then k else 0)
 
--- thread k of the input before its first instruction
-abbrev pub x64_start : (k : ℕ) → Stack → (at : ℕ) → X64
-x64_start k stack at = record { regs = start_bank k stack; at = at }
+-- thread k of the input before its first instruction; all flags are 0
+abbrev pub x64_start : (k : ℕ) → Stack → (at : ℕ) → Thread
+x64_start k stack at = record { regs = start_bank k stack; flags = record { cf = false; zf = false; sf = false; of = false }; at = at }
 
 -- thread k of the image before its first word: register n of x86 is Xn, and the flags are 0
 abbrev pub a64_start : (k : ℕ) → Stack → (at : ℕ) → AThread
@@ -29,7 +29,7 @@ abbrev pub allowed : List Part → List Stack → Permission
 allowed parts stacks = allows (memory parts stacks)
 
 -- The machine of a thread of the input. An instruction is placed where the thread's line has it, and nowhere else.
-abbrev pub x64_thread : List Part → List Stack → List PlacedNarrow → X64 → Tree (Next X64)
+abbrev pub x64_thread : List Part → List Stack → List Placed → Thread → Tree (Next Thread)
 x64_thread parts stacks line = x64_step (allowed parts stacks) (placed_in line) no_sites
 
 -- the machine of a thread of the image, whose code segment has these words
@@ -38,14 +38,14 @@ a64_thread parts stacks code_address words = a64_step (allowed parts stacks) cod
 
 -- a claim on two machines and a state of each
 abbrev pub OnThreads : Type 1
-OnThreads = (X64 → Tree (Next X64)) → X64 → (AThread → Tree (Next AThread)) → AThread → Type 0
+OnThreads = (Thread → Tree (Next Thread)) → Thread → (AThread → Tree (Next AThread)) → AThread → Type 0
 
 -- The claim holds of each thread of the input and that of the image with the same number, from their starts, in each layout
 -- that fits the image.
 abbrev pub OfEachThread : (input image : List ℕ) → (code_address : ℕ) → (words : List ℕ) → OnThreads → Type 0
 OfEachThread input image code_address words Claim =
     (stacks : List Stack) → Fits (segments_of image) (length (threads_of image)) stacks
-    → (k from to : ℕ) (stack : Stack) (line : List PlacedNarrow)
+    → (k from to : ℕ) (stack : Stack) (line : List Placed)
     → slice_get (threads_of input) k ≡ Some from → slice_get (threads_of image) k ≡ Some to → slice_get stacks k ≡ Some stack
     → IsLine (segments_of input) from line
     → Claim (x64_thread (segments_of input) stacks line) (x64_start k stack from)

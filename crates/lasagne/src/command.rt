@@ -1,12 +1,12 @@
-ghost use Rattle.std.specs.Prelude.{◌≡◌, ◌≢◌, ℕ, [], ◌∷◌, ◌++◌, codes, decimal, map, MatchBool, IfOk, OnOk, string_bytes};
-ghost use Rattle.lasagne.specs.Command.{World, Answers, Ends, IsSaid};
-ghost use Rattle.lasagne.specs.Texts.{counts_text, translated_line, usage_line, unbuilt_line};
+ghost use Rattle.std.specs.Prelude.{◌≡◌, ◌≢◌, codes, MatchBool};
+ghost use Rattle.lasagne.specs.Command.{World, Answers, Ends, IsSaid, IsTold};
 
-use crate::plan::Summary;
-use crate::ports::{GetFault, PutFault, Shelf, Sink, SinkFault};
-use crate::translation::{TransFault, translate};
+use crate::texts::{USAGE, refused_line, translated_line};
+use crate::translation::{TranslateFault, translate};
 use crate::word::Word;
-use std::alloc::{AllocError, Global};
+use elf_read::FileFault;
+use lz_ports::{GetFault, PutFault, Shelf, Sink, SinkFault};
+use std::alloc::Global;
 
 /// How a call of `run` ended.
 #[derive(Clone, Copy, Debug, PartialEq, Eq)]
@@ -24,52 +24,10 @@ pub enum Status {
 /// How many bytes of an input are read at most.
 const INPUT_LIMIT: u64 = 67_108_864;
 
-const USAGE: &[u8] = b"usage: lasagne translate IN OUT, match IN OUT EXEC, plan IN, try N\n";
-
-const UNBUILT: &[u8] = b"refused Unbuilt\n";
-
 fn is_translate(word: &Word) -> bool
     ensures { MatchBool result (word.now ≡ codes "translate") (word.now ≢ codes "translate") }
 {
     word.as_str() == "translate"
-}
-
-fn push_count(alloc: Global, text: &mut String, count: u32, name: &str) -> Result<(), AllocError>
-    ensures { OnOk result (string_bytes text.new ≡ string_bytes text.old ++ (decimal count ++ name.now)) }
-{
-    let digits = count.to_string(alloc)?;
-    text.push_str(digits.as_str())?;
-    text.push_str(name)?;
-    Ok(())
-}
-
-fn push_counts(alloc: Global, text: &mut String, counts: &[(u32, &str)]) -> Result<(), AllocError>
-    ensures { OnOk result (string_bytes text.new ≡ string_bytes text.old ++ counts_text (map (λ c. (c.0, c.1.now)) counts.now)) }
-{
-    for (count, name) in counts {
-        push_count(alloc, text, *count, name)?;
-    }
-    Ok(())
-}
-
-/// The line that tells of a translation.
-fn line_of(alloc: Global, s: Summary) -> Result<String, AllocError>
-    ensures { IfOk result (λ text. string_bytes text ≡ translated_line s) }
-{
-    let mut text = String::from_str(alloc, "translated ")?;
-    let counts = [
-        (s.threads, " threads, "),
-        (s.instructions, " instructions, "),
-        (s.blocks, " blocks, "),
-        (s.accesses, " accesses, "),
-        (s.private, " private, "),
-        (s.frm, " frm, "),
-        (s.fww, " fww, "),
-        (s.fsc, " fsc"),
-    ];
-    push_counts(alloc, &mut text, &counts)?;
-    text.push_str("\n")?;
-    Ok(text)
 }
 
 /// Writes a line that tells how the call ends. What the call ends with stands even where the write
@@ -80,6 +38,19 @@ fn say<O: Sink>(out: &mut O, text: &[u8], status: Status) -> Status
     match out.write_all(text) {
         Err(SinkFault::NoMemory) => Status::NoMemory,
         _ => status,
+    }
+}
+
+/// Writes the line that tells why a file is refused; want of memory is told by the status alone.
+fn refuse<O: Sink>(alloc: Global, out: &mut O, fault: TranslateFault) -> Status
+    ensures { IsTold fault (O.taken out.old) (O.faults out.old) (O.taken out.new) (O.faults out.new) result }
+{
+    if fault == TranslateFault::NoMemory {
+        return Status::NoMemory;
+    }
+    match refused_line(alloc, fault) {
+        Ok(line) => say(out, line.as_bytes(), Status::Refused),
+        Err(_) => Status::NoMemory,
     }
 }
 
@@ -98,15 +69,18 @@ fn translate_command<H: Shelf, O: Sink>(
     let bytes = match shelf.get(alloc, from, INPUT_LIMIT) {
         Ok(bytes) => bytes,
         Err(GetFault::Failed) => return Status::ReadFailed,
-        Err(GetFault::TooLong) => return say(out, UNBUILT, Status::Refused),
+        Err(GetFault::TooLong) => return refuse(
+            alloc,
+            out,
+            TranslateFault::File(FileFault::TooLong),
+        ),
         Err(GetFault::NoMemory) => return Status::NoMemory,
     };
     let made = match translate(alloc, &bytes) {
         Ok(made) => made,
-        Err(TransFault::Unbuilt) => return say(out, UNBUILT, Status::Refused),
-        Err(TransFault::NoMemory) => return Status::NoMemory,
+        Err(fault) => return refuse(alloc, out, fault),
     };
-    let Ok(line) = line_of(alloc, made.summary) else {
+    let Ok(line) = translated_line(alloc, made.summary) else {
         return Status::NoMemory;
     };
     match shelf.put(to, made.file.as_slice()) {

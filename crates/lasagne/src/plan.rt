@@ -1,8 +1,7 @@
 ghost use Rattle.std.specs.Prelude.{◌≡◌, ℕ, ◌+◌, ◌<◌, ◌≤◌, ◌^◌, [], ◌∷◌, ◌++◌, length, false, IfOk};
-ghost use Rattle.lasagne.specs.Plan.{gap, summary_of};
-ghost use Rattle.lasagne.specs.Counting.{counts_of, nothing};
+ghost use Rattle.lasagne.specs.Plan.{gap};
+ghost use Rattle.lasagne.specs.Counting.{AreAtMost, counts_of, nothing};
 
-use ev_graph::List;
 use x64_syntax::{Slot, SlotKind};
 
 /// What stands in a block and counts for its plan.
@@ -10,14 +9,6 @@ use x64_syntax::{Slot, SlotKind};
 pub enum Mark {
     Access(Slot),
     FullFence,
-}
-
-/// A block: where it begins, how many instructions it has, and its accesses and full fences in order.
-#[derive(Debug, Drop)]
-pub struct Block {
-    pub first: u64,
-    pub instructions: u32,
-    pub marks: List<Mark>,
 }
 
 /// The fences that a gap between accesses holds.
@@ -92,9 +83,10 @@ impl Counts {
 }
 
 /// The counts of a block's marks, none of which is private.
-fn count_marks(marks: &[Mark]) -> Counts
+pub fn count_marks(marks: &[Mark]) -> Counts
     requires { length marks.now < 2 ^ 31 }
-    ensures { result ≡ counts_of nothing None false marks.now }
+    ensures value { result ≡ counts_of nothing None false marks.now }
+    ensures small { AreAtMost (length marks.now + 1) result }
 {
     let mut counts = Counts {
         accesses: 0,
@@ -118,20 +110,29 @@ fn count_marks(marks: &[Mark]) -> Counts
     counts.with_gap(gap_between(before, fenced, None))
 }
 
-/// The summary of threads that all run one block, none of whose accesses is private.
-pub fn summarize(threads: u32, block: &Block) -> Summary
-    requires { length block.now.marks < 2 ^ 31 }
-    ensures { result ≡ summary_of nothing threads (block.now ∷ []) }
-{
-    let counts = count_marks(block.marks.as_slice());
-    Summary {
-        threads,
-        instructions: block.instructions,
-        blocks: 1,
-        accesses: counts.accesses,
-        private: 0,
-        frm: counts.frm,
-        fww: counts.fww,
-        fsc: counts.fsc,
+impl Summary {
+    ghost use Rattle.std.specs.Prelude.{◌≡◌, ◌+◌, ◌<◌, ◌^◌};
+    ghost use Rattle.lasagne.specs.Counting.{with_block};
+
+    /// The summary with one block more, none of whose accesses is private.
+    pub fn with_block(self, instructions: u32, counts: Counts) -> Summary
+        requires instructions { self.instructions + instructions < 2 ^ 32 }
+        requires blocks { self.blocks + 1 < 2 ^ 32 }
+        requires accesses { self.accesses + counts.accesses < 2 ^ 32 }
+        requires frm { self.frm + counts.frm < 2 ^ 32 }
+        requires fww { self.fww + counts.fww < 2 ^ 32 }
+        requires fsc { self.fsc + counts.fsc < 2 ^ 32 }
+        ensures { result ≡ with_block self instructions counts }
+    {
+        Summary {
+            threads: self.threads,
+            instructions: self.instructions + instructions,
+            blocks: self.blocks + 1,
+            accesses: self.accesses + counts.accesses,
+            private: self.private,
+            frm: self.frm + counts.frm,
+            fww: self.fww + counts.fww,
+            fsc: self.fsc + counts.fsc,
+        }
     }
 }

@@ -1,56 +1,15 @@
-use crate::ports::{DiskShelf, GetFault, MemShelf, MemSink, NamedFile, Shelf, Sink, StdSink};
 use crate::{Status, Word, run};
+use elf_format::Symbol;
+use ev_graph::List;
+use gen_input::build;
+use lz_ports::{MemShelf, MemSink, NamedFile};
 use std::alloc::Global;
-use std::fs;
 use std::test::Fail;
 
-const LINE: &[u8] =
+const LEAST_LINE: &[u8] =
     b"translated 1 threads, 1 instructions, 1 blocks, 1 accesses, 0 private, 1 frm, 0 fww, 0 fsc\n";
 
-/// The parts of the least file that are not zero, each with its offset.
-const LEAST: [(usize, &[u8]); 12] = [
-    (
-        0,
-        b"\x7FELF\x02\x01\x01\0\0\0\0\0\0\0\0\0\x02\0\x3E\0\x01\0\0\0\0\x10\x40\0\0\0\0\0",
-    ),
-    (
-        32,
-        b"\x40\0\0\0\0\0\0\0\0\x40\0\0\0\0\0\0\0\0\0\0\x40\0\x38\0\x02\0\x40\0\x03\0\0\0",
-    ),
-    (
-        64,
-        b"\x01\0\0\0\x05\0\0\0\0\x10\0\0\0\0\0\0\0\x10\x40\0\0\0\0\0\0\x10\x40\0\0\0\0\0",
-    ),
-    (
-        96,
-        b"\x01\0\0\0\0\0\0\0\x01\0\0\0\0\0\0\0\0\x10\0\0\0\0\0\0",
-    ),
-    (
-        120,
-        b"\x01\0\0\0\x06\0\0\0\0\x20\0\0\0\0\0\0\0\x40\x40\0\0\0\0\0\0\x40\x40\0\0\0\0\0",
-    ),
-    (
-        152,
-        b"\x40\0\0\0\0\0\0\0\x40\0\0\0\0\0\0\0\0\x10\0\0\0\0\0\0",
-    ),
-    (0x1000, b"\xC3"),
-    (
-        0x3018,
-        b"\x01\0\0\0\x12\0\xF1\xFF\0\x10\x40\0\0\0\0\0\0\0\0\0\0\0\0\0",
-    ),
-    (0x3030, b"\0thread_0\0"),
-    (
-        0x4040,
-        b"\0\0\0\0\x02\0\0\0\0\0\0\0\0\0\0\0\0\0\0\0\0\0\0\0\0\x30\0\0\0\0\0\0\x30\0\0\0\0\0\0\0\x02\0\0\0\x01\0\0\0\x08\0\0\0\0\0\0\0\x18\0\0\0\0\0\0\0",
-    ),
-    (
-        0x4080,
-        b"\0\0\0\0\x03\0\0\0\0\0\0\0\0\0\0\0\0\0\0\0\0\0\0\0\x30\x30\0\0\0\0\0\0\x0A\0\0\0\0\0\0\0",
-    ),
-    (0x40B0, b"\x01\0\0\0\0\0\0\0"),
-];
-
-/// Parts of its image: the program headers, of 401000 with flag R, of 404000 with R and W, and of six
+/// Parts of the least file's image: the program headers, of 401000 with flag R, of 404000 with R and W, and of six
 /// words of code at 410000 with X alone; and the words: ldr x16, [x4]; dmb ishld; add x4, x4, #8;
 /// cbz x16, +2; brk #3; svc #3.
 const IMAGE: [(usize, &[u8]); 4] = [
@@ -72,69 +31,84 @@ const IMAGE: [(usize, &[u8]); 4] = [
     ),
 ];
 
-/// The least file: a return, 64 zero cells and one thread.
-fn least_file(alloc: Global) -> Result<Vec<u8>, Fail> {
-    let mut bytes = vec![in alloc; 0u8; 16_576]?;
-    for (offset, part) in LEAST {
-        for (place, byte) in part.iter().enumerate() {
-            if let Some(cell) = bytes.get_mut(offset.saturating_add(place)) {
-                *cell = *byte;
-            }
-        }
+/// A file with this code at 401000, 64 zero cells at 404000, and symbols with these names and addresses.
+fn file_of(alloc: Global, code: &[u8], listed: &[(&str, u64)]) -> Result<Vec<u8>, Fail> {
+    let mut symbols = Vec::new(alloc);
+    for (name, address) in listed {
+        symbols.push(Symbol {
+            name: List::of(Vec::from_slice(alloc, name.as_bytes())?),
+            address: *address,
+        })?;
     }
-    Ok(bytes)
+    if code.len() > 0x1000
+        || symbols.len() > 40
+        || listed.iter().any(|symbol| symbol.0.len() > 32)
+    {
+        return Err("too much for a test".into());
+    }
+    Ok(build(alloc, code, &[0; 64], 0x404000, &symbols)?)
 }
 
-/// The same file with another code, of at most 4,096 bytes.
-fn file_with(alloc: Global, code: &[u8]) -> Result<Vec<u8>, Fail> {
-    let mut bytes = least_file(alloc)?;
-    let size = u16::try_from(code.len()).unwrap_or(0).to_le_bytes();
-    for (offset, part) in [(96, size.as_slice()), (104, &size), (0x1000, code)] {
-        for (place, byte) in part.iter().enumerate() {
-            if let Some(cell) = bytes.get_mut(place.saturating_add(offset)) {
-                *cell = *byte;
-            }
-        }
-    }
-    Ok(bytes)
+/// The least file: a return, 64 zero cells and one thread.
+fn least_file(alloc: Global) -> Result<Vec<u8>, Fail> {
+    file_of(alloc, b"\xC3", &[("thread_0", 0x401000)])
 }
 
 /// A shelf that holds these bytes under the name `a`.
-fn shelf_with(alloc: Global, bytes: Vec<u8>, failing: Vec<u64>) -> Result<MemShelf, Fail> {
+fn shelf_with(alloc: Global, bytes: Vec<u8>, failing: &[u64]) -> Result<MemShelf, Fail> {
     let mut files = Vec::new(alloc);
     files.push(NamedFile {
         name: String::from_str(alloc, "a")?,
         bytes,
     })?;
-    Ok(MemShelf::new(alloc, files, failing))
+    Ok(MemShelf::new(alloc, files, Vec::from_slice(alloc, failing)?))
 }
 
-/// Calls `run` with these words.
-fn run_words<H: Shelf, O: Sink>(
-    alloc: Global,
-    words: &[&str],
-    shelf: &mut H,
-    out: &mut O,
-) -> Result<Status, Fail> {
-    let mut made = Vec::new(alloc);
-    for word in words {
-        made.push(Word::new(String::from_str(alloc, word)?))?;
+fn words(alloc: Global, texts: &[&str]) -> Result<Vec<Word>, Fail> {
+    let mut words = Vec::new(alloc);
+    for text in texts {
+        words.push(Word::new(String::from_str(alloc, text)?))?;
     }
-    Ok(run(alloc, &made, shelf, out))
+    Ok(words)
 }
 
-fn calls(alloc: Global, numbers: &[u64]) -> Result<Vec<u64>, Fail> {
-    Ok(Vec::from_slice(alloc, numbers)?)
+/// What `translate a b` ends with and writes for a file, and whether it puts anything.
+#[derive(Drop)]
+struct Told {
+    status: Status,
+    taken: Vec<u8>,
+    put: bool,
+}
+
+fn translated(alloc: Global, bytes: Vec<u8>) -> Result<Told, Fail> {
+    let mut shelf = shelf_with(alloc, bytes, &[])?;
+    let mut out = MemSink::new(alloc, Vec::new(alloc));
+    let status = run(
+        alloc,
+        &words(alloc, &["translate", "a", "b"])?,
+        &mut shelf,
+        &mut out,
+    );
+    Ok(Told {
+        status,
+        taken: Vec::from_slice(alloc, out.taken())?,
+        put: shelf.look("b").is_some(),
+    })
 }
 
 #[test]
 fn least_file_is_translated(rt: HostRuntime) -> Result<(), Fail> {
     let alloc = rt.alloc();
-    let mut shelf = shelf_with(alloc, least_file(alloc)?, calls(alloc, &[])?)?;
-    let mut out = MemSink::new(alloc, calls(alloc, &[])?);
-    let status = run_words(alloc, &["translate", "a", "b"], &mut shelf, &mut out)?;
+    let mut shelf = shelf_with(alloc, least_file(alloc)?, &[])?;
+    let mut out = MemSink::new(alloc, Vec::new(alloc));
+    let status = run(
+        alloc,
+        &words(alloc, &["translate", "a", "b"])?,
+        &mut shelf,
+        &mut out,
+    );
     assert_eq!(rt; status, Status::Done);
-    assert_eq!(rt; out.taken(), LINE);
+    assert_eq!(rt; out.taken(), LEAST_LINE);
     let image = shelf.look("b").ok_or("no image")?;
     for (place, wanted) in IMAGE {
         let found = image
@@ -146,72 +120,178 @@ fn least_file_is_translated(rt: HostRuntime) -> Result<(), Fail> {
     Ok(())
 }
 
-#[test]
-fn straight_lines_are_translated(rt: HostRuntime) -> Result<(), Fail> {
-    let alloc = rt.alloc();
-    // mov edi, 0x404000; mov rax, [rdi]; mov [rdi], rax; ret
-    let copy = b"\xBF\0\x40\x40\0\x48\x8B\x07\x48\x89\x07\xC3";
-    let mut shelf = shelf_with(alloc, file_with(alloc, copy)?, calls(alloc, &[])?)?;
-    let mut out = MemSink::new(alloc, calls(alloc, &[])?);
-    let status = run_words(alloc, &["translate", "a", "b"], &mut shelf, &mut out)?;
-    assert_eq!(rt; status, Status::Done);
-    assert_eq!(rt;
-        out.taken(),
-        b"translated 1 threads, 4 instructions, 1 blocks, 3 accesses, 0 private, 2 frm, 1 fww, 0 fsc\n".as_slice()
-    );
-    Ok(())
-}
+/// Store buffering: two threads that each write one cell and read the other's.
+const STORE_BUFFERING: &[u8] =
+    b"\xBF\0\x40\x40\0\xBE\x08\x40\x40\0\xB8\x01\0\0\0\x48\x89\x07\x48\x8B\x06\xC3\
+    \xBF\x08\x40\x40\0\xBE\0\x40\x40\0\xB8\x01\0\0\0\x48\x89\x07\x48\x8B\x06\xC3";
+
+/// The same with `mfence` before each read.
+const FENCED: &[u8] =
+    b"\xBF\0\x40\x40\0\xBE\x08\x40\x40\0\xB8\x01\0\0\0\x48\x89\x07\x0F\xAE\xF0\x48\x8B\x06\xC3\
+    \xBF\x08\x40\x40\0\xBE\0\x40\x40\0\xB8\x01\0\0\0\x48\x89\x07\x0F\xAE\xF0\x48\x8B\x06\xC3";
 
 #[test]
-fn longest_code_is_translated(rt: HostRuntime) -> Result<(), Fail> {
+fn lines_are_translated(rt: HostRuntime) -> Result<(), Fail> {
     let alloc = rt.alloc();
-    let mut code = Vec::new(alloc);
-    for _ in 0..1365 {
-        code.extend_from_slice(b"\x48\x8B\x07")?;
-    }
-    code.push(0xC3)?;
-    let mut shelf = shelf_with(alloc, file_with(alloc, &code)?, calls(alloc, &[])?)?;
-    let mut out = MemSink::new(alloc, calls(alloc, &[])?);
-    let status = run_words(alloc, &["translate", "a", "b"], &mut shelf, &mut out)?;
-    assert_eq!(rt; status, Status::Done);
-    assert_eq!(rt;
-        out.taken(),
-        b"translated 1 threads, 1366 instructions, 1 blocks, 1366 accesses, 0 private, 1366 frm, 0 fww, 0 fsc\n".as_slice()
-    );
-    Ok(())
-}
-
-#[test]
-fn other_codes_are_refused(rt: HostRuntime) -> Result<(), Fail> {
-    let alloc = rt.alloc();
-    let codes: [&[u8]; 5] = [
-        b"",
-        b"\x90\xC3",
-        b"\x48\x89\xD1",
-        b"\xC3\xC3",
-        b"\xBF\0\x40\x40\xC3",
+    let cases: [(&[u8], &[(&str, u64)], &[u8]); 3] = [
+        (
+            b"\xBF\0\x40\x40\0\x48\x8B\x07\x48\x89\x07\xC3",
+            &[("thread_0", 0x401000)],
+            b"translated 1 threads, 4 instructions, 1 blocks, 3 accesses, 0 private, 2 frm, 1 fww, 0 fsc\n",
+        ),
+        (
+            STORE_BUFFERING,
+            &[("thread_0", 0x401000), ("thread_1", 0x401016)],
+            b"translated 2 threads, 12 instructions, 2 blocks, 6 accesses, 0 private, 4 frm, 2 fww, 0 fsc\n",
+        ),
+        (
+            FENCED,
+            &[("thread_0", 0x401000), ("thread_1", 0x401019)],
+            b"translated 2 threads, 14 instructions, 2 blocks, 6 accesses, 0 private, 4 frm, 2 fww, 2 fsc\n",
+        ),
     ];
-    for code in codes {
-        let mut shelf = shelf_with(alloc, file_with(alloc, code)?, calls(alloc, &[])?)?;
-        let mut out = MemSink::new(alloc, calls(alloc, &[])?);
-        let status = run_words(alloc, &["translate", "a", "b"], &mut shelf, &mut out)?;
-        assert_eq!(rt; status, Status::Refused);
-        assert_eq!(rt; out.taken(), b"refused Unbuilt\n".as_slice());
+    for (code, listed, line) in cases {
+        let told = translated(alloc, file_of(alloc, code, listed)?)?;
+        assert_eq!(rt; told.status, Status::Done);
+        assert_eq!(rt; told.taken.as_slice(), line);
     }
+    Ok(())
+}
+
+#[test]
+fn threads_share_an_address(rt: HostRuntime) -> Result<(), Fail> {
+    let alloc = rt.alloc();
+    let names = [
+        "thread_0",
+        "thread_1",
+        "thread_2",
+        "thread_3",
+        "thread_4",
+        "thread_5",
+        "thread_6",
+        "thread_7",
+        "thread_8",
+        "thread_9",
+        "thread_10",
+        "thread_11",
+        "thread_12",
+        "thread_13",
+        "thread_14",
+        "thread_15",
+    ];
+    let mut listed = Vec::new(alloc);
+    for name in names {
+        listed.push((name, 0x401000))?;
+    }
+    let told = translated(alloc, file_of(alloc, b"\xC3", &listed)?)?;
+    assert_eq!(rt; told.status, Status::Done);
+    assert_eq!(rt;
+        told.taken.as_slice(),
+        b"translated 16 threads, 1 instructions, 1 blocks, 1 accesses, 0 private, 1 frm, 0 fww, 0 fsc\n".as_slice()
+    );
     Ok(())
 }
 
 #[test]
 fn other_files_are_refused(rt: HostRuntime) -> Result<(), Fail> {
     let alloc = rt.alloc();
-    let mut bytes = least_file(alloc)?;
-    bytes.truncate(63);
-    let mut shelf = shelf_with(alloc, bytes, calls(alloc, &[])?)?;
-    let mut out = MemSink::new(alloc, calls(alloc, &[])?);
-    let status = run_words(alloc, &["translate", "a", "b"], &mut shelf, &mut out)?;
-    assert_eq!(rt; status, Status::Refused);
-    assert_eq!(rt; out.taken(), b"refused Unbuilt\n".as_slice());
-    assert!(rt; shelf.look("b").is_none());
+    let one: &[(&str, u64)] = &[("thread_0", 0x401000)];
+    let cases: [(&[u8], &[(&str, u64)], &[u8]); 8] = [
+        (b"\xFF\xE0", one, b"refused UnbuiltCode 401000\n"),
+        (
+            b"\x48\x89\xD1\x90\xC3",
+            one,
+            b"refused UnbuiltCode 401003\n",
+        ),
+        (b"\x48\x89\xD1", one, b"refused UnbuiltCode 401003\n"),
+        (b"\xBF\0\x40\x40", one, b"refused UnbuiltCode 401000\n"),
+        // the second thread begins within the first instruction of the first, and its line meets the first's
+        (
+            b"\x48\xB8\xC3\0\0\0\0\0\0\0\xC3",
+            &[("thread_0", 0x401000), ("thread_1", 0x401002)],
+            b"refused UnbuiltCode 401002\n",
+        ),
+        (
+            b"\xC3",
+            &[("thread_0", 0x401000), ("lsg_input", 0x401000)],
+            b"refused UnbuiltCode 401000\n",
+        ),
+        (b"\xC3", &[("thread_1", 0x401000)], b"refused NoThread\n"),
+        (
+            b"\xC3",
+            &[("thread_0", 0x401000), ("thread_0", 0x401000)],
+            b"refused DoubleName 2\n",
+        ),
+    ];
+    for (code, listed, line) in cases {
+        let told = translated(alloc, file_of(alloc, code, listed)?)?;
+        assert_eq!(rt; told.status, Status::Refused);
+        assert_eq!(rt; told.taken.as_slice(), line);
+        assert!(rt; !told.put);
+    }
+    Ok(())
+}
+
+/// What a prefix of the least file with so many bytes is told.
+fn told_of_cut(length: usize) -> &'static [u8] {
+    match length {
+        0..=63 => b"refused Short\n",
+        64..=175 => b"refused ProgramTable\n",
+        176..=4096 => b"refused Segment 0\n",
+        4097..=8255 => b"refused Segment 1\n",
+        8256..=16_575 => b"refused SymbolTable\n",
+        _ => LEAST_LINE,
+    }
+}
+
+#[test]
+fn cut_files_are_refused(rt: HostRuntime) -> Result<(), Fail> {
+    let alloc = rt.alloc();
+    let whole = least_file(alloc)?;
+    for length in 0..=whole.len() {
+        let cut = Vec::from_slice(alloc, whole.get(..length).unwrap_or(&[]))?;
+        let told = translated(alloc, cut)?;
+        assert_eq!(rt;
+            told.taken.as_slice(),
+            told_of_cut(length),
+            "of {length} bytes"
+        );
+        assert_eq!(rt; told.put, length == 16_576);
+    }
+    Ok(())
+}
+
+#[test]
+fn changed_fields_are_refused(rt: HostRuntime) -> Result<(), Fail> {
+    let alloc = rt.alloc();
+    let cases: [(usize, &[u8], &[u8]); 12] = [
+        (0, b"\x7E", b"refused Magic\n"),
+        (4, b"\x01", b"refused Class\n"),
+        (16, b"\x03", b"refused BadType 3\n"),
+        (18, b"\xB7", b"refused Machine 183\n"),
+        (56, b"\x41", b"refused ProgramTable\n"),
+        (120, b"\x03", b"refused ProgramTable\n"),
+        (
+            128,
+            b"\xFF\xFF\xFF\xFF\xFF\xFF\xFF\xFF",
+            b"refused Segment 1\n",
+        ),
+        (124, b"\x03", b"refused Segment 1\n"),
+        (136, b"\0\0\0\0\0\x40\0\0", b"refused Segment 1\n"),
+        (160, b"\0\0\0\x10\0\0\0\0", b"refused TooBig\n"),
+        (160, b"\xFF\xFF\xFF\x0F\0\0\0\0", LEAST_LINE),
+        (0x3018, b"\x0A", b"refused SymbolTable\n"),
+    ];
+    for (offset, field, line) in cases {
+        let mut bytes = least_file(alloc)?;
+        for (place, byte) in field.iter().enumerate() {
+            if let Some(cell) = bytes.get_mut(offset.saturating_add(place)) {
+                *cell = *byte;
+            }
+        }
+        let told = translated(alloc, bytes)?;
+        assert_eq!(rt; told.taken.as_slice(), line, "at {offset}");
+    }
     Ok(())
 }
 
@@ -224,10 +304,10 @@ fn words_of_no_command_tell_usage(rt: HostRuntime) -> Result<(), Fail> {
         &["plan", "a"],
         &["translate", "a", "b", "c"],
     ];
-    for words in cases {
-        let mut shelf = shelf_with(alloc, least_file(alloc)?, calls(alloc, &[])?)?;
-        let mut out = MemSink::new(alloc, calls(alloc, &[])?);
-        let status = run_words(alloc, words, &mut shelf, &mut out)?;
+    for texts in cases {
+        let mut shelf = shelf_with(alloc, least_file(alloc)?, &[])?;
+        let mut out = MemSink::new(alloc, Vec::new(alloc));
+        let status = run(alloc, &words(alloc, texts)?, &mut shelf, &mut out);
         assert_eq!(rt; status, Status::Usage);
         assert_eq!(rt;
             out.taken(),
@@ -240,62 +320,34 @@ fn words_of_no_command_tell_usage(rt: HostRuntime) -> Result<(), Fail> {
 #[test]
 fn failing_calls_are_told(rt: HostRuntime) -> Result<(), Fail> {
     let alloc = rt.alloc();
-    for (shelf_call, sink_call, wanted) in [
-        (0, 9, Status::ReadFailed),
-        (1, 9, Status::WriteFailed),
-        (9, 0, Status::OutFailed),
+    for (shelf_call, sink_call, wanted, kept, taken) in [
+        (0, 9, Status::ReadFailed, 0, 0),
+        (1, 9, Status::WriteFailed, 6_328, 0),
+        (9, 0, Status::OutFailed, 12_656, LEAST_LINE.len() / 2),
     ] {
-        let mut shelf = shelf_with(alloc, least_file(alloc)?, calls(alloc, &[shelf_call])?)?;
-        let mut out = MemSink::new(alloc, calls(alloc, &[sink_call])?);
-        let status = run_words(alloc, &["translate", "a", "b"], &mut shelf, &mut out)?;
+        let mut shelf = shelf_with(alloc, least_file(alloc)?, &[shelf_call])?;
+        let mut out = MemSink::new(alloc, Vec::from_slice(alloc, &[sink_call])?);
+        let status = run(
+            alloc,
+            &words(alloc, &["translate", "a", "b"])?,
+            &mut shelf,
+            &mut out,
+        );
         assert_eq!(rt; status, wanted);
-        let kept = shelf.look("b").map_or(0, |image| image.len());
-        let (bytes, taken) = match wanted {
-            Status::WriteFailed => (6_328, 0),
-            Status::OutFailed => (12_656, LINE.len() / 2),
-            _ => (0, 0),
-        };
-        assert_eq!(rt; kept, bytes);
+        assert_eq!(rt; shelf.look("b").map_or(0, |image| image.len()), kept);
         assert_eq!(rt; out.taken().len(), taken);
     }
     Ok(())
 }
 
 #[test]
-fn missing_file_is_a_failed_read(rt: HostRuntime) -> Result<(), Fail> {
-    let alloc = rt.alloc();
-    let mut shelf = shelf_with(alloc, least_file(alloc)?, calls(alloc, &[])?)?;
-    let mut out = MemSink::new(alloc, calls(alloc, &[])?);
-    let status = run_words(alloc, &["translate", "c", "b"], &mut shelf, &mut out)?;
-    assert_eq!(rt; status, Status::ReadFailed);
-    assert_eq!(rt; out.taken().len(), 0);
-    Ok(())
-}
-
-#[test]
 fn image_may_replace_its_input(rt: HostRuntime) -> Result<(), Fail> {
     let alloc = rt.alloc();
-    let mut shelf = shelf_with(alloc, least_file(alloc)?, calls(alloc, &[])?)?;
-    let mut out = MemSink::new(alloc, calls(alloc, &[])?);
-    let first = run_words(alloc, &["translate", "a", "a"], &mut shelf, &mut out)?;
-    assert_eq!(rt; first, Status::Done);
-    let again = run_words(alloc, &["translate", "a", "a"], &mut shelf, &mut out)?;
-    assert_eq!(rt; again, Status::Refused);
-    Ok(())
-}
-
-#[test]
-fn files_and_standard_output_are_reached(rt: HostRuntime) -> Result<(), Fail> {
-    let alloc = rt.alloc();
-    let name = "lasagne-shelf-test";
-    let mut shelf = DiskShelf::new(&rt);
-    shelf.put(name, b"seven..").map_err(|_| "not kept")?;
-    let bytes = shelf.get(alloc, name, 7).map_err(|_| "not given")?;
-    assert_eq!(rt; bytes.as_slice(), b"seven..".as_slice());
-    assert!(rt; matches!(shelf.get(alloc, name, 6), Err(GetFault::TooLong)));
-    fs::remove_file(&rt, name)?;
-    assert!(rt; matches!(shelf.get(alloc, name, 7), Err(GetFault::Failed)));
-    let mut out = StdSink::new(&rt);
-    out.write_all(b"a line\n").map_err(|_| "not written")?;
+    let mut shelf = shelf_with(alloc, least_file(alloc)?, &[])?;
+    let mut out = MemSink::new(alloc, Vec::new(alloc));
+    let texts = words(alloc, &["translate", "a", "a"])?;
+    assert_eq!(rt; run(alloc, &texts, &mut shelf, &mut out), Status::Done);
+    assert_eq!(rt; run(alloc, &texts, &mut shelf, &mut out), Status::Refused);
+    assert!(rt; out.taken().ends_with(b"refused Machine 183\n"));
     Ok(())
 }

@@ -3,8 +3,8 @@
 //! Source: POSIX.1-2017, exit statuses.
 #![tactic(auto)]
 
-use lasagne::ports::{DiskShelf, StdSink};
 use lasagne::{Status, Word, run};
+use lz_ports::{DiskShelf, StdSink};
 use std::alloc::Global;
 use std::env;
 use std::io::{self, ErrorKind};

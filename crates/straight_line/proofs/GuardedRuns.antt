@@ -1,7 +1,7 @@
 -- The runs of the words of a line are guarded by their fences.
-use Rattle.std.proofs.Common.{◌≡◌, ℕ, ◌+◌, ◌*◌, ◌%◌, ◌^◌, ◌<◌, ◌==◌, Bool, true, false, List, [], ◌∷◌, ◌++◌, map, length, refl, sym, ap, ◌∙◌, subst, arith}
+use Rattle.std.proofs.Common.{◌≡◌, ℕ, ◌+◌, ◌*◌, ◌%◌, ◌^◌, ◌<◌, ◌==◌, Bool, true, false, List, [], ◌∷◌, ◌++◌, length, refl, sym, ap, ◌∙◌, subst, arith}
 use Rattle.std.specs.Prelude.{if◌then◌else◌}
-use Rattle.std.specs.List.{AllByRecursion, flat_map}
+use Rattle.std.specs.List.{flat_map}
 use Rattle.std.proofs.lemmas.List.{append-nil}
 use Rattle.ev_graph.specs.declared.events.Item.{Item}
 use Rattle.ev_graph.specs.declared.events.Item.TheVariants as items
@@ -24,15 +24,13 @@ use Rattle.behavior.proofs.Walks.{From, from-cut, from-stop, from-go, run_walk, 
 use Rattle.behavior.proofs.Blocks.{to_block}
 use Rattle.a64_code.specs.declared.instr.XReg.{XReg}
 use Rattle.a64_code.specs.declared.instr.A64.{A64}
-use Rattle.a64_code.specs.Ranges.{IsEncodable}
-use Rattle.a64_code.specs.Words.{word_of}
 use Rattle.a64_table.specs.State.{xregs, AState, value}
 use Rattle.a64_table.specs.Values.{low}
 use Rattle.a64_table.specs.Rows.{a64_words}
 use Rattle.a64_table.specs.Machine.{AThread, a64_step}
-use Rattle.a64_table.proofs.MachineLemmas.{lands}
+use Rattle.a64_table.proofs.MachineLemmas.{lands, StandAt}
 use Rattle.straight_line.specs.declared.steps.Step.{Step}
-use Rattle.straight_line.specs.declared.steps.Step.TheVariants.{Copy, Number, Load, Store, Add, ReadFence, WriteFence}
+use Rattle.straight_line.specs.declared.steps.Step.TheVariants.{Copy, Number, Load, Store, Add, ReadFence, WriteFence, FullFence}
 use Rattle.straight_line.specs.Steps.{ir_steps}
 use Rattle.straight_line.specs.Passes.{fenced, x, SameNamed, Selected, SelectsWords, ending}
 use Rattle.straight_line.specs.Guarded.{Guarded}
@@ -103,6 +101,7 @@ steps_guarded may (Store address from place ∷ xs) i =
     store_guarded (may true (i address) 8) place (i address) (i from % 256 ^ 8) (ir_steps may (flat_map fenced xs)) i (λ j. steps_guarded may xs j)
 steps_guarded may (ReadFence ∷ xs) i = fence_guarded Frm (ir_steps may (flat_map fenced xs) i) (steps_guarded may xs i)
 steps_guarded may (WriteFence ∷ xs) i = fence_guarded Fww (ir_steps may (flat_map fenced xs) i) (steps_guarded may xs i)
+steps_guarded may (FullFence ∷ xs) i = fence_guarded Fsc (ir_steps may (flat_map fenced xs) i) (steps_guarded may xs i)
 
 -- ---- the words with their ending
 
@@ -177,7 +176,8 @@ module _ (may : Permission) (code : ℕ) (xs : List Step) (ws : List (A64 XReg))
   from_guarded (from-go path run same_items same_count) = absurd (goes_nowhere path)
 
 -- each run of the words is guarded
-pub runs_guarded : (may : Permission) (code : ℕ) (xs : List Step) (ws : List (A64 XReg)) → SelectsWords (flat_map fenced xs) ws → AllByRecursion IsEncodable (ws ++ ending) → Forwards ws → code + 4 * length (ws ++ ending) < 2 ^ 63
-    → (t : AThread) → t.at ≡ code → ((n : ℕ) → t.state.regs n < 2 ^ 64) → {is : List Item} {end : End} {n : ℕ} → Run (a64_step may code (map word_of (ws ++ ending))) t is end n → Guarded false false (lowered is)
-runs_guarded may code xs ws selects range forward below t at fit run =
-    from_guarded may code xs ws selects t fit (walk_from (to_block ((target_blocks may code ws range forward below).unfolds t at) (run_walk run)))
+pub runs_guarded : (may : Permission) (code : ℕ) (all : List ℕ) (entry : ℕ) (xs : List Step) (ws : List (A64 XReg)) → SelectsWords (flat_map fenced xs) ws
+    → StandAt code all entry (ws ++ ending) → Forwards ws → entry + 4 * length (ws ++ ending) < 2 ^ 63
+    → (t : AThread) → t.at ≡ entry → ((n : ℕ) → t.state.regs n < 2 ^ 64) → {is : List Item} {end : End} {n : ℕ} → Run (a64_step may code all) t is end n → Guarded false false (lowered is)
+runs_guarded may code all entry xs ws selects stand forward below t at fit run =
+    from_guarded may entry xs ws selects t fit (walk_from (to_block ((target_blocks may code all entry ws stand forward below).unfolds t at) (run_walk run)))

@@ -1,11 +1,12 @@
 pub mod Banks
 pub mod Lists
+pub mod PlainRows
 pub mod Lifted
 pub mod Fenced
 pub mod Selected
 pub mod LineUnfolds
+pub mod LineMakes
 pub mod LineCarried
-pub mod LineRead
 pub mod GuardedRuns
 pub mod LineTranslated
 pub mod Sizes

@@ -6,7 +6,7 @@ use Rattle.std.specs.Int.Bits.{or_zero_l}
 use Rattle.std.proofs.lemmas.List.{append-nil}
 use Rattle.std.proofs.lemmas.Bool.{eqb-true}
 use Rattle.std.proofs.lemmas.Bool.Decides.{nat_tests}
-use Rattle.ev_graph.specs.declared.events.FenceKind.TheVariants.{Frm, Fww, DmbLd, DmbSt}
+use Rattle.ev_graph.specs.declared.events.FenceKind.TheVariants.{Frm, Fww, Fsc, DmbLd, DmbSt, DmbFull}
 use Rattle.behavior.specs.Tree.{Tree, Next, ◌then◌}
 use Rattle.behavior.specs.Acts.{Bank, put, Permission, goes, reads, writes}
 use Rattle.behavior.specs.Seen.{lowered}
@@ -27,7 +27,7 @@ use Rattle.a64_table.specs.Values.{low, shifted}
 use Rattle.a64_table.specs.Rows.{gets, ahead, IsForward, a64_words}
 use Rattle.a64_table.proofs.MachineLemmas.{words-append}
 use Rattle.straight_line.specs.declared.steps.Step.{Step}
-use Rattle.straight_line.specs.declared.steps.Step.TheVariants.{Copy, Number, Load, Store, Add, ReadFence, WriteFence}
+use Rattle.straight_line.specs.declared.steps.Step.TheVariants.{Copy, Number, Load, Store, Add, ReadFence, WriteFence, FullFence}
 use Rattle.straight_line.specs.Steps.{ir_steps, IsStep}
 use Rattle.straight_line.specs.Passes.{x, quarter_word, quarter_of, selected, SameNamed, Selected, SelectsWords}
 use Rattle.straight_line.proofs.Banks.{put_same, put_fit, put_here, put_other}
@@ -156,6 +156,10 @@ selects_step may WriteFence h at i s same =
     let on : Done → Tree (Next (ℕ × AState)) = λ d. a64_words xregs may (at + 4) [] (ahead d.distance) (after xregs None d s) in
     earn {more = 4} (omega arith) (spend {less = 3} (omega arith)
     (beside_fences lowered 4 Selected (ir_steps may []) on 3 Fww DmbSt 0 at (goes i) (gets 0 s.nzcv) refl (give (both-go (refl, unwritten i s s.nzcv same)))))
+selects_step may FullFence h at i s same =
+    let on : Done → Tree (Next (ℕ × AState)) = λ d. a64_words xregs may (at + 4) [] (ahead d.distance) (after xregs None d s) in
+    earn {more = 4} (omega arith) (spend {less = 3} (omega arith)
+    (beside_fences lowered 4 Selected (ir_steps may []) on 3 Fsc DmbFull 0 at (goes i) (gets 0 s.nzcv) refl (give (both-go (refl, unwritten i s s.nzcv same)))))
 
 selects_rest : (may : Permission) (xs : List Step) (ws : List (A64 XReg)) (at : ℕ)
     → ((i : Bank) (s : AState) → SameNamed i s → Keeps lowered 4 0 (SameNext Selected) (ir_steps may xs i) (a64_words xregs may at ws 0 s))
@@ -200,6 +204,7 @@ selected_range (Store address from place) (a, b) = ((inr (inr (inr refl)), inl (
 selected_range (Add to from n) (a, b, c) = ((named to a, named from b, c), tt)
 selected_range ReadFence h = (tt, tt)
 selected_range WriteFence h = (tt, tt)
+selected_range FullFence h = (tt, tt)
 
 pub selects_range : (xs : List Step) → AllByRecursion IsStep xs → AllByRecursion IsEncodable (flat_map selected xs)
 selects_range [] well = tt
@@ -222,6 +227,7 @@ selected_forward (Store address from place) = (tt, tt)
 selected_forward (Add to from n) = (tt, tt)
 selected_forward ReadFence = (tt, tt)
 selected_forward WriteFence = (tt, tt)
+selected_forward FullFence = (tt, tt)
 
 pub selects_forward : (xs : List Step) → AllByRecursion IsForward (flat_map selected xs)
 selects_forward [] = tt

@@ -1,5 +1,4 @@
 pub mod Line
-pub mod Reading
 pub mod Steps
 pub mod Passes
 pub mod Guarded

@@ -1,40 +1,47 @@
 -- What each pass writes, and what it keeps.
-use Rattle.std.specs.Prelude.{◌≡◌, ℕ, ◌*◌, ◌/◌, ◌%◌, ◌^◌, ◌<◌, ◌==◌, true, List, [], ◌∷◌, ◌++◌, if◌then◌else◌, pos}
+use Rattle.std.specs.Prelude.{◌≡◌, ℕ, ◌*◌, ◌/◌, ◌%◌, ◌^◌, ◌<◌, ◌==◌, true, List, [], ◌∷◌, ◌++◌, if◌then◌else◌, pos, Option, Some, None}
 use Rattle.std.specs.List.{flat_map}
 use Rattle.behavior.specs.Acts.{Bank, Permission}
-use Rattle.behavior.specs.Seen.{placed, lowered}
+use Rattle.behavior.specs.Seen.{placed_full, lowered}
 use Rattle.behavior.specs.Kept.{SameNext, Keeps}
-use Rattle.x64_table.specs.declared.narrow.Narrow.{Narrow}
-use Rattle.x64_table.specs.declared.narrow.Narrow.TheVariants as instrs
-use Rattle.x64_table.specs.declared.narrow.PlacedNarrow.{PlacedNarrow}
-use Rattle.x64_table.specs.Machine.{X64, Exit, State, Return}
+use Rattle.x64_syntax.specs.declared.placed.Placed.{Placed}
+use Rattle.x64_table.specs.State.{Thread}
+use Rattle.x64_table.specs.Rows.{Exit, State, Return, Indexed}
+use Rattle.line_read.specs.declared.plain.Plain.{Plain}
+use Rattle.line_read.specs.declared.plain.Plain.TheVariants as plain
+use Rattle.line_read.specs.Plain.{plain_of}
 use Rattle.a64_code.specs.declared.instr.XReg.{XReg}
 use Rattle.a64_code.specs.declared.instr.A64.{A64}
 use Rattle.a64_code.specs.declared.instr.A64.TheVariants as words
 use Rattle.a64_table.specs.State.{AState, xregs}
 use Rattle.a64_table.specs.Rows.{a64_words}
 use Rattle.straight_line.specs.declared.steps.Step.{Step}
-use Rattle.straight_line.specs.declared.steps.Step.TheVariants.{Copy, Number, Load, Store, Add, ReadFence, WriteFence}
+use Rattle.straight_line.specs.declared.steps.Step.TheVariants.{Copy, Number, Load, Store, Add, ReadFence, WriteFence, FullFence}
 use Rattle.straight_line.specs.Line.{x64_rows}
 use Rattle.straight_line.specs.Steps.{ir_steps}
 
 -- ---- lifting
 
 -- the steps of an instruction at an address; a return leaves the popped address in register 16
-abbrev pub lifted_narrow : Narrow → (place : ℕ) → List Step
-lifted_narrow (instrs.Move to from) place = Copy to from ∷ []
-lifted_narrow (instrs.Load to base) place = Load to base place ∷ []
-lifted_narrow (instrs.Store base from) place = Store base from place ∷ []
-lifted_narrow (instrs.Move32 to n) place = Number to n ∷ []
-lifted_narrow (instrs.Move64 to n) place = Number to n ∷ []
-lifted_narrow instrs.Ret place = Load 16 4 place ∷ Add 4 4 8 ∷ []
+abbrev pub lifted_plain : (place : ℕ) → Plain → List Step
+lifted_plain place (plain.Move to from) = Copy to from ∷ []
+lifted_plain place (plain.Load to base) = Load to base place ∷ []
+lifted_plain place (plain.Store base from) = Store base from place ∷ []
+lifted_plain place (plain.Number to n) = Number to n ∷ []
+lifted_plain place plain.Fence = FullFence ∷ []
+lifted_plain place plain.Return = Load 16 4 place ∷ Add 4 4 8 ∷ []
+
+-- the same where the instruction is translated so far; no other has steps
+abbrev pub lifted_some : (place : ℕ) → Option Plain → List Step
+lifted_some place None = []
+lifted_some place (Some k) = lifted_plain place k
 
 -- the steps of an instruction where it stands
-abbrev pub lifted : PlacedNarrow → List Step
-lifted p = lifted_narrow p.instr p.address
+abbrev pub lifted : Placed → List Step
+lifted p = lifted_some p.address (plain_of p.instr)
 
 -- the sixteen registers of x86 hold the same, and fit
-pub record SameRegisters (s : X64) (i : Bank) : Type 0 where
+pub record SameRegisters (s : Thread) (i : Bank) : Type 0 where
   pub same : (n : ℕ) → n < 16 → i n ≡ s.regs n
   pub fit : (n : ℕ) → n < 16 → s.regs n < 2 ^ 64
 
@@ -42,11 +49,12 @@ pub record SameRegisters (s : X64) (i : Bank) : Type 0 where
 abbrev pub Returned : Exit → Bank → Type 0
 Returned (State s) i = ⊥
 Returned (Return s v) i = SameRegisters s i × (i 16 ≡ v)
+Returned (Indexed s v) i = ⊥
 
--- lifting keeps accesses with their places
-abbrev pub LiftsLine : (first : ℕ) → List PlacedNarrow → List Step → Type 0
-LiftsLine first line steps = (may : Permission) (s : X64) (i : Bank) → s.at ≡ first → SameRegisters s i
-    → Keeps placed 3 0 (SameNext Returned) (x64_rows may line s) (ir_steps may steps i)
+-- lifting keeps accesses with their places, and full fences
+abbrev pub LiftsLine : (first : ℕ) → List Placed → List Step → Type 0
+LiftsLine first line steps = (may : Permission) (s : Thread) (i : Bank) → s.at ≡ first → SameRegisters s i
+    → Keeps placed_full 3 0 (SameNext Returned) (x64_rows may line s) (ir_steps may steps i)
 
 -- ---- fences
 
@@ -59,6 +67,7 @@ fenced (Number to n) = Number to n ∷ []
 fenced (Add to from n) = Add to from n ∷ []
 fenced ReadFence = ReadFence ∷ []
 fenced WriteFence = WriteFence ∷ []
+fenced FullFence = FullFence ∷ []
 
 -- the steps with fences are the steps, each with its fence and no other
 abbrev pub IsFenced : List Step → List Step → Type 0
@@ -68,9 +77,9 @@ IsFenced xs ys = ys ≡ flat_map fenced xs
 abbrev pub IsSameBank : Bank → Bank → Type 0
 IsSameBank a b = a ≡ b
 
--- fences keep accesses with their places
+-- fences keep accesses with their places, and full fences
 abbrev pub KeepsPlaced : List Step → List Step → Type 0
-KeepsPlaced xs ys = (may : Permission) (i : Bank) → Keeps placed 2 0 (SameNext IsSameBank) (ir_steps may xs i) (ir_steps may ys i)
+KeepsPlaced xs ys = (may : Permission) (i : Bank) → Keeps placed_full 2 0 (SameNext IsSameBank) (ir_steps may xs i) (ir_steps may ys i)
 
 -- ---- selection
 
@@ -96,6 +105,7 @@ selected (Store address from place) = words.Str 8 (x from) (x address) 0 ∷ []
 selected (Add to from n) = words.AddImm true (x to) (x from) n ∷ []
 selected ReadFence = words.DmbLd ∷ []
 selected WriteFence = words.DmbSt ∷ []
+selected FullFence = words.DmbFull ∷ []
 
 -- the registers up to X16 hold what the steps' registers hold, which fits
 pub record SameNamed (i : Bank) (s : AState) : Type 0 where

@@ -44,7 +44,8 @@ fn push_fenced(with: &mut Vec<Step>, step: Step) -> Result<(), NoMemory>
         | Step::Number(_, _)
         | Step::Add(_, _, _)
         | Step::ReadFence
-        | Step::WriteFence => with.push(step)?,
+        | Step::WriteFence
+        | Step::FullFence => with.push(step)?,
     }
     Ok(())
 }

@@ -1,12 +1,16 @@
 //! The translation of a straight line of x86 instructions into A64 words, pass after pass.
-//! Others rest on `read_line`, exactly the line that a code spells, and `translate_line`, whose words do what the line does, take at most 256 words an instruction, and have a fence between accesses that x86 keeps in order: `CarriesLine`.
+//! Others rest on `translate_line`, whose words do what the line does, take at most 256 words an instruction, and have a fence between accesses that x86 keeps in order: `CarriesLine`.
 //! Source: backward and forward simulation of compilers (Leroy, CACM 52(7), 2009), pass by pass.
 #![tactic(auto)]
 
-pub mod fence;
-pub mod layout;
-pub mod lift;
-pub mod line;
-pub mod select;
-pub mod steps;
-pub mod translate;
+mod fence;
+mod layout;
+mod lift;
+mod select;
+mod steps;
+mod translate;
+
+pub use translate::translate_line;
+
+#[cfg(test)]
+mod tests;

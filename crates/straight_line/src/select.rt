@@ -43,6 +43,7 @@ fn push_selected(words: &mut Vec<A64<XReg>>, step: Step) -> Result<(), NoMemory>
         Step::Add(to, from, n) => words.push(A64::AddImm(true, x(to), x(from), n))?,
         Step::ReadFence => words.push(A64::DmbLd)?,
         Step::WriteFence => words.push(A64::DmbSt)?,
+        Step::FullFence => words.push(A64::DmbFull)?,
     }
     Ok(())
 }

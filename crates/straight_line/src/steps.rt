@@ -16,4 +16,6 @@ pub enum Step {
     ReadFence,
     /// No later write comes before an earlier write.
     WriteFence,
+    /// No later access comes before an earlier one.
+    FullFence,
 }

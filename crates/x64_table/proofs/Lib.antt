@@ -1,2 +1,7 @@
-pub mod SpellingLemmas
-pub mod MachineLemmas
+pub mod OpenLemmas
+mod OperandLemmas
+mod PermissionLemmas
+pub mod ShapeLemmas
+pub mod Shapes
+pub mod WantsLemmas
+mod StateLemmas

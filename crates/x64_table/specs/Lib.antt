@@ -1,4 +1,10 @@
-pub mod Spelling
-pub mod Reading
-pub mod Machine
+pub mod State
+pub mod Outcomes
+pub mod Rows
+pub mod Answers
+pub mod View
+pub mod Operands
+pub mod Steps
 pub mod Slots
+pub mod Laws
+pub mod Machine

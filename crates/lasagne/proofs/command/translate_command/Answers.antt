@@ -1,17 +1,11 @@
 use Rattle.std.proofs.Common.{◌∙◌, refl, inl, inr}
-use Rattle.lasagne.proofs.Endings.{longer_has_fault, unbuilt_has_fault, refused, of_image, rose_later, put_image, torn_image, took_line, took_part}
+use Rattle.lasagne.proofs.Endings.{longer_refused, fault_refused, refused, of_image, rose_later, put_image, torn_image, took_line, took_part}
 use Rattle.lasagne.proofs.command.translate_command.Goals as goal
 
 pub returns-in-Err-TooLong : goal.returns-in-Err-TooLong
 returns-in-Err-TooLong g c =
-    refused c.say.result c.args.from.now c.args.to.now _ _
-    (longer_has_fault _ c.args.from.now 67108864 _ _ refl (c.in-Err-TooLong.ensures.too_long (cc))) c.in-Err-TooLong.ensures.same c.say.ensures
-
-pub returns-in-Err-Unbuilt : goal.returns-in-Err-Unbuilt
-returns-in-Err-Unbuilt g c =
-    refused c.say-in-Err-Unbuilt.result c.args.from.now c.args.to.now _ _
-    (unbuilt_has_fault _ c.args.from.now c.in-Ok.bytes.items c.deref.result.now c.deref.ensures.value (c.in-Err-Unbuilt.ensures.unbuilt (cc)) c.in-Ok.ensures.bytes)
-    c.in-Ok.ensures.same c.say-in-Err-Unbuilt.ensures
+    refused c.refuse.result c.args.from.now c.args.to.now _ _ _
+    (longer_refused _ c.args.from.now 67108864 _ _ refl (c.in-Err-TooLong.ensures.too_long (cc))) c.in-Err-TooLong.ensures.same c.refuse.ensures
 
 pub returns-in_default : goal.returns-in_default
 returns-in_default g c = (refl, inl c.in-Ok.ensures.same)
@@ -35,7 +29,7 @@ returns-in-Ok-write_all g c =
       put_image _ _ _ c.args.to.now c.as_slice.result.now c.in-Ok-translate.made.file c.in-Ok.ensures.same c.as_slice.ensures c.in-Ok-put.ensures.ok,
       c.in-Ok-translate.made.summary,
       c.in-Ok-translate.ensures.summary,
-      took_line _ _ c.as_bytes.result.now _ (c.as_bytes.ensures.value ∙ c.in-Ok-line_of.ensures) c.in-Ok-write_all.ensures.ok,
+      took_line _ _ c.as_bytes.result.now _ (c.as_bytes.ensures.value ∙ c.in-Ok-translated_line.ensures) c.in-Ok-write_all.ensures.ok,
     )
 
 pub returns-in-Err-Failed-write_all : goal.returns-in-Err-Failed-write_all
@@ -46,7 +40,7 @@ returns-in-Err-Failed-write_all g c = (
         put_image _ _ _ c.args.to.now c.as_slice.result.now c.in-Ok-translate.made.file c.in-Ok.ensures.same c.as_slice.ensures c.in-Ok-put.ensures.ok,
         c.in-Ok-translate.made.summary,
         c.in-Ok-translate.ensures.summary,
-        took_part _ _ c.as_bytes.result.now _ (c.as_bytes.ensures.value ∙ c.in-Ok-line_of.ensures) (c.in-Err-Failed-write_all.ensures.failed (cc)),
+        took_part _ _ c.as_bytes.result.now _ (c.as_bytes.ensures.value ∙ c.in-Ok-translated_line.ensures) (c.in-Err-Failed-write_all.ensures.failed (cc)),
       ),
 )
 

@@ -1,57 +1,57 @@
-use Rattle.std.proofs.Common.{◌≡◌, ℕ, ◌+◌, ◌*◌, ◌^◌, ◌<◌, ◌≤◌, [], ◌∷◌, length, sym, ◌∙◌, ap, arith, subst}
-use Rattle.std.specs.Prelude.{Err}
-use Rattle.std.specs.declared.result.Result.{Result}
-use Rattle.std.proofs.lemmas.Result.{err_from_is_err_and}
-use Rattle.lasagne.specs.declared.translation.TransFault.{TransFault}
-use Rattle.lasagne.specs.declared.translation.TransFault.TheVariants.{Unbuilt}
-use Rattle.lasagne.specs.declared.translation.Translated.{Translated}
-use Rattle.straight_line.specs.Line.{IsLineOf}
-use Rattle.straight_line.specs.Carried.{CarriesLine}
-use Rattle.straight_line.proofs.LineRead.{line_short}
-use Rattle.lasagne.specs.BuiltFile.{code_segment, cells_segment}
+use Rattle.std.proofs.Common.{◌≡◌, ℕ, ◌≤◌, List, [], ◌∷◌, length, map, slice_get, Some, arith, sym, ◌∙◌, ap, subst}
+use Rattle.std.specs.List.{AllByRecursion}
+use Rattle.elf_read.specs.Elf.{parts_of}
+use Rattle.elf_write.specs.Written.{IsFileOf}
+use Rattle.line_read.specs.declared.line.Line.{Line}
+use Rattle.line_read.specs.Line.{code_of}
+use Rattle.line_read.specs.Lines.{IsRead, IsEntry, HasLine, AreAllDistinct, IsStraightLine}
+use Rattle.line_read.proofs.CallerLemmas.{line_short}
 use Rattle.lasagne.specs.Counting.{nothing}
-use Rattle.lasagne.specs.Lines.{block_of}
+use Rattle.lasagne.specs.Laid.{IsShort, IsLineImage}
+use Rattle.lasagne.specs.Lines.{block_of, HasSummary}
 use Rattle.lasagne.specs.Plan.{summary_of}
-use Rattle.lasagne.specs.Carries.{IsOneThreadImage}
-use Rattle.lasagne.proofs.Narrow.{some_code, code_read, made_again}
-use Rattle.lasagne.proofs.Carried.{image_carries, line_summarized}
+use Rattle.lasagne.proofs.LaidLines.{all_wider}
+use Rattle.lasagne.proofs.Carried.{IsReadOf, AreLinesOf, line_image_carries, lines_summarized}
 use Rattle.lasagne.proofs.translation.translate.Goals as goal
 
-err_same : (a b : TransFault) → ◌≡◌ {A = Result Translated TransFault} (Err a) (Err b) → a ≡ b
-err_same a b e = cc
+pub line_image-requires-clause-short : goal.line_image-requires-clause-short
+line_image-requires-clause-short c =
+    subst (AllByRecursion IsShort) (sym c.deref.ensures.value)
+    (all_wider (IsRead (code_of c.in_ok-elf.elf)) IsShort (λ line read. line_short (code_of c.in_ok-elf.elf) line.first line.placed read) c.in_ok-lines.lines.items c.in_ok-lines.ensures.built)
+
+pub summarize-requires-clause-short : goal.summarize-requires-clause-short
+summarize-requires-clause-short c =
+    subst (AllByRecursion IsShort) (sym c.deref-2.ensures.value)
+    (all_wider (IsRead (code_of c.in_ok-elf.elf)) IsShort (λ line read. line_short (code_of c.in_ok-elf.elf) line.first line.placed read) c.in_ok-lines.lines.items c.in_ok-lines.ensures.built)
 
 pub returns-clause-carries : goal.returns-clause-carries
 returns-clause-carries c =
-    let line = c.in_ok-line.line.items in
-    let words = c.in_ok-words.words.items in
-    let size : length words ≤ 64 * length line + 64 = subst (λ l. length words ≤ 64 * length l + 64) c.deref.ensures.value c.in_ok-words.ensures.size in
-    let carried = subst (λ l. (at : ℕ) → at + 4 * length words < 2 ^ 63 → CarriesLine 0x401000 l at words) c.deref.ensures.value c.in_ok-words.ensures.carries in
-    let made = subst (λ ws. IsOneThreadImage (code_segment c.in_ok-code.code.now ∷ cells_segment c.in_ok-cells.cells.now 0x404000 ∷ []) ws c.in_ok-file.file) c.deref-2.ensures.value c.in_ok-file.ensures in
-    image_carries c.args.bytes.now c.in_ok-code.code.now c.in_ok-cells.cells.now words c.in_ok-file.file line c.in_ok-line.ensures.line c.in_ok-code.ensures.size c.in_ok-cells.ensures.size c.in_ok-check_bytes.ensures.same size carried made
+    let elf = c.in_ok-elf.elf in
+    let lines = c.in_ok-lines.lines.items in
+    let read : IsReadOf c.args.bytes.now elf = record {
+      segments = c.in_ok-elf.ensures.segments;
+      threads = c.in_ok-elf.ensures.threads;
+      reads = c.in_ok-elf.ensures.input;
+      writes = c.in_ok-elf.ensures.output;
+      sound = c.in_ok-elf.ensures.first;
+      program = c.in_ok-elf.ensures.program;
+    } in
+    let are : AreLinesOf elf lines = record { built = c.in_ok-lines.ensures.built; few = c.in_ok-lines.ensures.few; none = c.in_ok-lines.ensures.sound } in
+    let made = subst (λ ls. IsLineImage (parts_of elf) elf.threads ls c.in_ok-image.image) c.deref.ensures.value c.in_ok-image.ensures.made in
+    let written = subst (IsFileOf c.in_ok-image.image) (sym c.of.ensures) c.in_ok-file.ensures in
+    line_image_carries c.args.bytes.now c.of.result elf lines c.in_ok-image.image read are made c.in_ok-image.ensures.image written
 
 pub returns-clause-summary : goal.returns-clause-summary
 returns-clause-summary c =
-    let line = c.in_ok-line.line.items in
-    let counted = subst (λ l. c.in_ok-summary.summary ≡ summary_of nothing 1 (block_of 0x401000 l ∷ [])) c.deref-3.ensures.value c.in_ok-summary.ensures in
-    line_summarized c.args.bytes.now c.in_ok-code.code.now c.in_ok-cells.cells.now line _ c.in_ok-line.ensures.line c.in_ok-code.ensures.size c.in_ok-cells.ensures.size c.in_ok-check_bytes.ensures.same counted
-
-pub returns-in_err-check_bytes-clause-unbuilt : goal.returns-in_err-check_bytes-clause-unbuilt
-returns-in_err-check_bytes-clause-unbuilt c e fault =
-    let came = err_from_is_err_and c.from_residual-in_err-check_bytes.result c.from_residual-in_err-check_bytes.ensures.1 in
-    c.in_err-check_bytes.ensures.unbuilt (ap Err (sym came.2 ∙ err_same came.0 Unbuilt (sym came.1 ∙ e)))
-    (made_again c.args.bytes.now c.in_ok-code.code.now c.in_ok-cells.cells.now fault c.in_ok-code.ensures.code c.in_ok-cells.ensures.cells)
-
-pub returns-in_err-line-clause-unbuilt : goal.returns-in_err-line-clause-unbuilt
-returns-in_err-line-clause-unbuilt c e fault =
-    let came = err_from_is_err_and c.from_residual-in_err-line.result c.from_residual-in_err-line.ensures.1 in
-    let same = c.in_ok-code.ensures.code ∙ code_read c.args.bytes.now fault in
-    c.in_err-line.ensures.unbuilt (ap Err (sym came.2 ∙ err_same came.0 Unbuilt (sym came.1 ∙ e))) fault.line (subst (λ code. IsLineOf 0x401000 code fault.line) (sym same) fault.is_line)
-
-pub narrow_image_file-requires-clause-some_code : goal.narrow_image_file-requires-clause-some_code
-narrow_image_file-requires-clause-some_code c = some_code 0x401000 c.in_ok-code.code.now _ c.in_ok-line.ensures.line
-
-pub line_summary-requires : goal.line_summary-requires
-line_summary-requires c =
-    let is = c.in_ok-line.ensures.line in
-    let short = line_short c.in_ok-line.line.items 0x401000 c.in_ok-code.code.now is.0.stands is.1 in
-    omega (arith, short, c.in_ok-code.ensures.size)
+    let elf = c.in_ok-elf.elf in
+    let lines = c.in_ok-lines.lines.items in
+    let read : IsReadOf c.args.bytes.now elf = record {
+      segments = c.in_ok-elf.ensures.segments;
+      threads = c.in_ok-elf.ensures.threads;
+      reads = c.in_ok-elf.ensures.input;
+      writes = c.in_ok-elf.ensures.output;
+      sound = c.in_ok-elf.ensures.first;
+      program = c.in_ok-elf.ensures.program;
+    } in
+    lines_summarized c.args.bytes.now elf lines c.in_ok-summary.summary read c.in_ok-lines.ensures.built c.in_ok-lines.ensures.entries c.in_ok-lines.ensures.each c.in_ok-lines.ensures.apart
+    (subst (λ ls. c.in_ok-summary.summary ≡ summary_of nothing (length elf.threads) (map block_of ls)) c.deref-2.ensures.value (c.in_ok-summary.ensures ∙ ap (λ (ts : List ℕ). summary_of nothing (length ts) (map block_of c.deref-2.result.now)) c.as_slice.ensures))

@@ -16,7 +16,7 @@ pub returns-clause-well : goal.returns-clause-well
 returns-clause-well c =
     let line = c.args.line.now in
     λ first straight. IfOk-weaker c.lift_each.result (λ steps. steps.items ≡ flat_map lifted line) (λ steps. AllByRecursion IsStep steps.items)
-    (λ steps same. subst (λ l. AllByRecursion IsStep l) (sym same) (lifts_well line straight.narrow)) c.lift_each.ensures
+    (λ steps same. subst (λ l. AllByRecursion IsStep l) (sym same) (lifts_well line straight.translated)) c.lift_each.ensures
 
 pub returns-clause-size : goal.returns-clause-size
 returns-clause-size c =

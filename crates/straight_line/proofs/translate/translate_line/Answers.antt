@@ -1,5 +1,5 @@
 use Rattle.std.proofs.lemmas.Result.{IfOk-weaker}
-use Rattle.std.proofs.Common.{◌≡◌, ◌≤◌, ℕ, ◌+◌, ◌*◌, ◌^◌, ◌<◌, ◌++◌, map, length, ap, ◌∙◌, subst}
+use Rattle.std.proofs.Common.{◌≡◌, ◌≤◌, ℕ, ◌+◌, ◌*◌, ◌^◌, ◌<◌, List, ◌++◌, map, length, ap, ◌∙◌, subst}
 use Rattle.a64_code.specs.Words.{word_of}
 use Rattle.straight_line.specs.Passes.{LiftsLine, IsFenced, KeepsPlaced, SelectsWords, ending}
 use Rattle.straight_line.specs.Carried.{CarriesLine}
@@ -18,8 +18,9 @@ returns-clause-carries c =
     let fences : KeepsPlaced steps fenced_steps = subst (λ l. KeepsPlaced l fenced_steps) c.deref.ensures.value c.in_ok-with_fences.ensures.meaning in
     let placed : IsFenced steps fenced_steps = subst (λ l. IsFenced l fenced_steps) c.deref.ensures.value c.in_ok-with_fences.ensures.fences in
     let selects : SelectsWords fenced_steps ws = subst (λ l. SelectsWords l ws) c.deref-2.ensures.value c.in_ok-words.ensures.meaning in
-    IfOk-weaker c.lay_out.result (λ code. code.items ≡ map word_of (c.deref-3.result.now ++ ending)) (λ words. (code : ℕ) → code + 4 * length words.items < 2 ^ 63 → CarriesLine first line code words.items)
-    (λ words same code below. carries first code line steps fenced_steps ws words.items c.requires lifts placed fences selects c.in_ok-words.ensures.range c.in_ok-words.ensures.forward (same ∙ ap (λ l. map word_of (l ++ ending)) c.deref-3.ensures.value) below)
+    IfOk-weaker c.lay_out.result (λ code. code.items ≡ map word_of (c.deref-3.result.now ++ ending))
+    (λ words. (code : ℕ) (before after : List ℕ) → code + 4 * length (before ++ (words.items ++ after)) < 2 ^ 63 → CarriesLine first line code (before ++ (words.items ++ after)) (code + 4 * length before))
+    (λ words same. carries first line steps fenced_steps ws words.items c.requires lifts placed fences selects c.in_ok-words.ensures.range c.in_ok-words.ensures.forward (same ∙ ap (λ l. map word_of (l ++ ending)) c.deref-3.ensures.value))
     c.lay_out.ensures
 
 pub returns-clause-size : goal.returns-clause-size

@@ -1,0 +1,2 @@
+pub mod SymbolSteps
+pub mod CallerLemmas

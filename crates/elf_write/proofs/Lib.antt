@@ -1,0 +1,11 @@
+pub mod Reading
+pub mod ReadParts
+pub mod ReadImage
+pub mod ReadThreads
+pub mod ReadSymbols
+pub mod Steps
+pub mod Ends
+pub mod Kept
+pub mod Readable
+pub mod Cells
+pub mod CallerLemmas

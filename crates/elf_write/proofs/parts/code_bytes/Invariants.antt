@@ -1,0 +1,7 @@
+use Rattle.std.proofs.Common.{◌≡◌, ◌++◌, drop}
+use Rattle.std.specs.Prelude.{flat_map}
+use Rattle.byteorder.specs.Endian.{little_bytes}
+use Rattle.elf_write.proofs.parts.code_bytes.Given as goal
+
+abbrev pub invariant-loop-word : goal.invariant-loop-word
+invariant-loop-word l = l.bytes.items ++ flat_map (little_bytes 4) (drop l.word-index l.words) ≡ flat_map (little_bytes 4) l.words

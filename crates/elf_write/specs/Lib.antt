@@ -1,0 +1,3 @@
+pub mod ImageFile
+pub mod Image
+pub mod Written

@@ -1,7 +1,0 @@
-use Rattle.std.proofs.Common.{◌≡◌, ◌+◌, ℕ, drop}
-use Rattle.std.specs.Prelude.{option_map}
-use Rattle.lasagne.specs.Memories.{place_of}
-use Rattle.lasagne.proofs.ports.memory_shelf.place_of.Given as goal
-
-abbrev pub invariant-loop-place : goal.invariant-loop-place
-invariant-loop-place l = option_map (λ (k : ℕ). l.place + k) (place_of (drop l.place l.files) l.name) ≡ place_of l.files l.name

@@ -1,0 +1,4 @@
+pub mod CodeLemmas
+pub mod LineLemmas
+pub mod LinesLemmas
+pub mod CallerLemmas

@@ -1,0 +1,7 @@
+-- What is looked at to decode an instruction.
+use Rattle.std.specs.Prelude.{ℕ, List, take}
+use Rattle.line_read.specs.declared.window.Window.{Window}
+
+-- the bytes of a window that are there
+abbrev pub shown : Window → List ℕ
+shown window = take window.count window.bytes

@@ -1,0 +1,50 @@
+ghost use Rattle.std.specs.Prelude.{◌≡◌, ◌≤◌, ◌⊎◌, ℕ, Option, length, IfOk, IfSome, OnOk};
+ghost use Rattle.lz_ports.specs.Ports.{Files, Rose, HasCause, IsPut, IsTorn, IsLonger, Told};
+
+use std::alloc::Global;
+
+/// Why a file was not given.
+#[derive(Clone, Copy, Debug, PartialEq, Eq)]
+pub enum GetFault {
+    /// The shelf's count of faults rose: the file is absent, or it could not be read.
+    Failed,
+    /// The file has more bytes than the limit.
+    TooLong,
+    NoMemory,
+}
+
+/// Why a file was not kept.
+#[derive(Clone, Copy, Debug, PartialEq, Eq)]
+pub enum PutFault {
+    /// The shelf's count of faults rose: the file is as before or holds a prefix of the bytes.
+    Failed,
+    /// The files are as before.
+    NoMemory,
+}
+
+/// Where files lie by name. It may tell what it holds; its count of faults, a `u64`, never falls.
+pub trait Shelf {
+    ghost files: { Self → Option Files };
+
+    ghost faults: { Self → ℕ };
+
+    /// The bytes of the file under a name, at most `limit`; the files stay as they are.
+    ///
+    /// The name is a path of the system for a shelf over its files, and any text else.
+    fn get(&mut self, alloc: Global, name: &str, limit: u64) -> Result<Vec<u8>, GetFault>
+        ensures bytes { IfOk result (λ v. IfSome (files self.old) (λ f. f name.now ≡ Some v.items)) }
+        ensures limit { IfOk result (λ v. length v.items ≤ limit) }
+        ensures same { files self.new ≡ files self.old }
+        ensures cause { HasCause GetFault.Failed (faults self.old) (faults self.new) result }
+        // Too long comes exactly where the count did not rise and the file has more bytes than the limit.
+        ensures too_long { result ≡ Err GetFault.TooLong → IfSome (files self.old) (λ f. IsLonger f name.now limit × (Rose (faults self.old) (faults self.new) → ⊥)) }
+        ensures longer { IfSome (files self.old) (λ f. IsLonger f name.now limit → (Rose (faults self.old) (faults self.new) → ⊥)
+            → (result ≡ Err GetFault.TooLong) ⊎ (result ≡ Err GetFault.NoMemory)) };
+
+    /// Keeps these bytes under a name, in place of those that were there; all other files stay.
+    fn put(&mut self, name: &str, bytes: &[u8]) -> Result<(), PutFault>
+        ensures ok { OnOk result (Told (files self.old) (files self.new) (IsPut name.now bytes.now)) }
+        ensures failed { result ≡ Err PutFault.Failed → Told (files self.old) (files self.new) (IsTorn name.now bytes.now) }
+        ensures no_memory { result ≡ Err PutFault.NoMemory → files self.new ≡ files self.old }
+        ensures cause { HasCause PutFault.Failed (faults self.old) (faults self.new) result };
+}

@@ -1,0 +1,31 @@
+ghost use Rattle.x64_table.specs.Laws.{RowsAreOpen, RowsMakeSlots, RowsRun, RowsRunOnly, RowsWant};
+
+/// What an instruction does is decided by the values that it reads and takes in.
+#[tactic(auto, using(crate::proofs::OpenLemmas::rows_open))]
+pub fn rows_are_open()
+    ensures { RowsAreOpen }
+{}
+
+/// Each time that a row goes on, it has made exactly the accesses that `slots_of` lists.
+#[tactic(auto, using(crate::proofs::ShapeLemmas::rows_slots))]
+pub fn rows_make_slots()
+    ensures { RowsMakeSlots }
+{}
+
+/// Each run of a row to its end is what `row` answers on the run's values.
+#[tactic(auto, using(crate::proofs::ShapeLemmas::rows_run_holds))]
+pub fn rows_run()
+    ensures { RowsRun }
+{}
+
+/// What `row` answers as `Done` is a run of the row to its end, with the items in their order.
+#[tactic(auto, using(crate::proofs::ShapeLemmas::rows_run_only_holds))]
+pub fn rows_run_only()
+    ensures { RowsRunOnly }
+{}
+
+/// `row` wants a read exactly where none is given and the row makes one that is allowed, and an input exactly where
+/// none is given, the row takes one, and no read is wanted.
+pub fn rows_want()
+    ensures { RowsWant }
+{}
