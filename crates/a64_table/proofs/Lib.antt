@@ -5,3 +5,5 @@ pub mod MachineLemmas
 pub mod BarrierLemmas
 pub mod RowLemmas
 pub mod OperandLemmas
+pub mod ThreadLemmas
+pub mod CallerLemmas

@@ -1,16 +1,13 @@
 -- A word does the same in two states that hold the same in its operands.
-use Rattle.std.proofs.Common.{◌≡◌, ℕ, ◌+◌, ◌*◌, ◌%◌, ◌^◌, ◌<◌, ◌==◌, Bool, not, List, [], ◌∷◌, Option, Some, None, refl, sym, ap, ◌∙◌, inl, inr}
-use Rattle.std.specs.Prelude.{if◌then◌else◌}
+use Rattle.std.proofs.Common.{◌≡◌, ℕ, ◌+◌, ◌*◌, ◌%◌, ◌^◌, ◌==◌, not, List, refl, ap}
 use Rattle.std.specs.List.{AllByRecursion}
 use mathlib.Core.Path.{fun_ext, ap₂}
-use Rattle.behavior.specs.Tree.{Tree, Next}
 use Rattle.behavior.specs.Acts.{Permission, reads, writes, exchanges}
 use Rattle.a64_code.specs.declared.instr.A64.{A64}
-use Rattle.a64_code.specs.declared.instr.A64.TheVariants.{Add, Sub, Subs, And, Orr, Eor, AddImm, SubImm, Movz, Movk, Movn, Lslv, Lsrv, Asrv, Rorv, Udiv, Sdiv, Madd, Msub, Smulh, Umulh, Ubfm, Sbfm, Csel, Csinc, B, BCond, Cbz, Cbnz, Ldr, Str, Cas, Swp, Ldadd, Ldclr, Ldeor, Ldset, DmbFull, DmbLd, DmbSt, Nop, Brk, Svc}
+use Rattle.a64_code.specs.declared.instr.A64.TheVariants.{Add, Sub, Subs, And, Orr, Eor, AddImm, SubImm, Movz, Movk, Movn, Lslv, Lsrv, Asrv, Rorv, Udiv, Sdiv, Madd, Msub, Smulh, Umulh, Ubfm, Sbfm, Csel, Csinc, Cbz, Cbnz, Ldr, Str, Cas, Swp, Ldadd, Ldclr, Ldeor, Ldset, Svc}
 use Rattle.a64_table.specs.declared.state.Nzcv.{Nzcv}
-use Rattle.a64_table.specs.declared.state.Done.{Done}
 use Rattle.a64_table.specs.State.{Names}
-use Rattle.a64_table.specs.Values.{low, shifted, holds, a64_value}
+use Rattle.a64_table.specs.Values.{low, shifted, a64_value}
 use Rattle.a64_table.specs.Rows.{gets, branches, compares, calls, computes_or, a64_written, a64_act, a64_row, a64_operands}
 
 -- two ways to read registers agree on these

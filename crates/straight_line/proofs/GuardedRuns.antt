@@ -1,7 +1,7 @@
 -- The runs of the words of a line are guarded by their fences.
-use Rattle.std.proofs.Common.{◌≡◌, ℕ, ◌+◌, ◌*◌, ◌%◌, ◌^◌, ◌<◌, ◌==◌, Bool, true, false, List, [], ◌∷◌, ◌++◌, map, length, refl, sym, ap, ◌∙◌, subst, arith}
+use Rattle.std.proofs.Common.{◌≡◌, ℕ, ◌+◌, ◌*◌, ◌%◌, ◌^◌, ◌<◌, ◌==◌, Bool, true, false, List, [], ◌∷◌, ◌++◌, length, refl, sym, ap, ◌∙◌, subst, arith}
 use Rattle.std.specs.Prelude.{if◌then◌else◌}
-use Rattle.std.specs.List.{AllByRecursion, flat_map}
+use Rattle.std.specs.List.{flat_map}
 use Rattle.std.proofs.lemmas.List.{append-nil}
 use Rattle.ev_graph.specs.declared.events.Item.{Item}
 use Rattle.ev_graph.specs.declared.events.Item.TheVariants as items
@@ -24,8 +24,6 @@ use Rattle.behavior.proofs.Walks.{From, from-cut, from-stop, from-go, run_walk, 
 use Rattle.behavior.proofs.Blocks.{to_block}
 use Rattle.a64_code.specs.declared.instr.XReg.{XReg}
 use Rattle.a64_code.specs.declared.instr.A64.{A64}
-use Rattle.a64_code.specs.Ranges.{IsEncodable}
-use Rattle.a64_code.specs.Words.{word_of}
 use Rattle.a64_table.specs.State.{xregs, AState, value}
 use Rattle.a64_table.specs.Values.{low}
 use Rattle.a64_table.specs.Rows.{a64_words}

@@ -1,5 +1,5 @@
 -- The passes one behind the other carry a line.
-use Rattle.std.proofs.Common.{◌≡◌, ℕ, ◌+◌, ◌*◌, ◌^◌, ◌<◌, ◌==◌, Bool, true, false, List, [], ◌∷◌, ◌++◌, map, length, refl, sym, ap, ◌∙◌, subst, arith, Option}
+use Rattle.std.proofs.Common.{◌≡◌, ℕ, ◌+◌, ◌*◌, ◌^◌, ◌<◌, ◌==◌, Bool, true, false, List, [], ◌∷◌, ◌++◌, length, refl, sym, ap, ◌∙◌, subst, arith, Option}
 use Rattle.std.specs.Prelude.{if◌then◌else◌, pos}
 use Rattle.std.specs.List.{AllByRecursion}
 use Rattle.behavior.specs.Tree.{Tree, Next, ◌then◌}
