@@ -12,7 +12,7 @@ use Rattle.straight_line.specs.Carried.{CarriesLine}
 use Rattle.lasagne.specs.declared.laid.LaidLine.{LaidLine}
 use Rattle.lasagne.specs.Laid.{CarryEach, BeginsWithin, AreLaid, HasLaid, IsLaidAt, BeginLaid}
 
-all_append : {A : Type 0} (P : A → Type 0) (xs : List A) (y : A) → AllByRecursion P xs → P y → AllByRecursion P (xs ++ y ∷ [])
+pub all_append : {A : Type 0} (P : A → Type 0) (xs : List A) (y : A) → AllByRecursion P xs → P y → AllByRecursion P (xs ++ y ∷ [])
 all_append P [] y all one = (one, tt)
 all_append P (x ∷ xs) y all one = (all.0, all_append P xs y all.1 one)
 

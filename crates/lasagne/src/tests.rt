@@ -35,15 +35,15 @@ const IMAGE: [(usize, &[u8]); 4] = [
 fn file_of(alloc: Global, code: &[u8], listed: &[(&str, u64)]) -> Result<Vec<u8>, Fail> {
     let mut symbols = Vec::new(alloc);
     for (name, address) in listed {
+        if name.len() > 32 {
+            return Err("a name too long for a test".into());
+        }
         symbols.push(Symbol {
             name: List::of(Vec::from_slice(alloc, name.as_bytes())?),
             address: *address,
         })?;
     }
-    if code.len() > 0x1000
-        || symbols.len() > 40
-        || listed.iter().any(|symbol| symbol.0.len() > 32)
-    {
+    if code.len() > 0x1000 || symbols.len() > 40 {
         return Err("too much for a test".into());
     }
     Ok(build(alloc, code, &[0; 64], 0x404000, &symbols)?)
