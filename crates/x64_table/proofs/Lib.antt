@@ -1,9 +1,11 @@
-pub mod SpellingLemmas
+pub mod CallerLemmas
 pub mod MachineLemmas
 pub mod OpenLemmas
 mod OperandLemmas
 mod PermissionLemmas
 pub mod ShapeLemmas
 pub mod Shapes
-pub mod WantsLemmas
+pub mod SpellingLemmas
 mod StateLemmas
+pub mod SteppingLemmas
+pub mod WantsLemmas

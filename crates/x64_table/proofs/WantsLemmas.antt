@@ -1,6 +1,6 @@
 -- Which value each row wants, and when.
-use Rattle.std.proofs.Common.{◌≡◌, ℕ, suc, zero, ◌+◌, ◌^◌, ◌%◌, ◌<◌, ◌&&◌, Bool, true, false, List, [], ◌∷◌, ◌++◌, Option, Some, None, refl, sym, ap, ◌∙◌, subst, lit<, arith, length}
-use Rattle.std.specs.Prelude.{if◌then◌else◌, Contains, IfSome, slice_index_or}
+use Rattle.std.proofs.Common.{◌≡◌, ℕ, suc, zero, ◌<◌, ◌&&◌, Bool, true, false, List, [], ◌∷◌, ◌++◌, Option, Some, None, refl, sym, ap, ◌∙◌, subst, lit<, arith, length}
+use Rattle.std.specs.Prelude.{if◌then◌else◌, IfSome, slice_index_or}
 use Rattle.std.specs.List.{AllByRecursion}
 use Rattle.ev_graph.specs.declared.events.FenceKind.TheVariants.{Mfence}
 use Rattle.ev_graph.specs.declared.events.Access.{Access}
@@ -9,8 +9,8 @@ use Rattle.ev_graph.specs.declared.events.AccessKind.TheVariants as kinds
 use Rattle.ev_graph.specs.declared.events.Item.{Item}
 use Rattle.ev_graph.specs.declared.events.Item.TheVariants as items
 use Rattle.ev_graph.specs.declared.rows.Wanted.{Wanted}
-use Rattle.behavior.specs.Tree.{Tree, Gives, Begins, Acts, Point, Cut, Path, cut, gives, begins, acts, Next, Goes, Stops}
-use Rattle.behavior.specs.Acts.{Permission, goes, access, fences_at, takes_in, puts_out, locked_write}
+use Rattle.behavior.specs.Tree.{Gives, Point, Cut, Path, cut, gives, begins, acts, Next, Stops}
+use Rattle.behavior.specs.Acts.{Permission, goes, fences_at, takes_in, puts_out, locked_write}
 use Rattle.behavior.proofs.Makes.{AllMakes}
 use Rattle.x64_syntax.specs.declared.slots.SlotKind.{SlotKind}
 use Rattle.x64_table.specs.Rows.{Exit, Row, row_of}
@@ -147,22 +147,26 @@ read_is w row takes x all makes =
 wants_exactly : (row : Row) (g : Given) → Asked row → WantsExactly row g
 wants_exactly row g (w, takes, asks) = record {
   read = λ x. (to_read x, from_read x);
-  input = (to_input, from_input)
+  input = (to_input, from_input);
 }
   where
     at : kind (answer g no_items row) ≡ expected w takes g.read g.input
     at = asks.answers g.read g.input
+
     to_read : (x : Wanted) → answer g no_items row ≡ WantsRead x → (g.read ≡ None) × MakesRead row x
     to_read x e =
         let both = expected_read w takes g.read g.input x (sym at ∙ ap kind e) in
         (both.0, subst (λ o. IfSome o (MakesRead row)) both.1 asks.reads)
+
     from_read : (x : Wanted) → (g.read ≡ None) × MakesRead row x → answer g no_items row ≡ WantsRead x
     from_read x (none, makes) =
         kind_read (answer g no_items row) x (at ∙ ap (λ o. expected o takes g.read g.input) (read_is w row takes x asks.only makes) ∙ ap (λ r. expected (Some x) takes r g.input) none)
+
     to_input : answer g no_items row ≡ WantsInput → (g.input ≡ None) × TakesAnInput row × ((x : Wanted) → answer g no_items row ≡ WantsRead x → ⊥)
     to_input e =
         let both = expected_takes w takes g.read g.input (sym at ∙ ap kind e) in
         (both.0, subst (λ b. TakesIf b row) both.1 asks.inputs, (λ x e'. input_is_no_read x (sym e ∙ e')))
+
     from_input : (g.input ≡ None) × TakesAnInput row × ((x : Wanted) → answer g no_items row ≡ WantsRead x → ⊥) → answer g no_items row ≡ WantsInput
     from_input (none, makes, never) =
         let set : takes ≡ true = made_has (IsAsked w takes) row (items.Input (record { value = makes.0; place = makes.1 })) asks.only makes.2 in
@@ -194,11 +198,16 @@ module _ (place : ℕ) where
 
   read_asks : (b : Bool) (address size : ℕ) (next : ℕ → Next Exit) → Asked (when b (reading place address size (λ v. Gives (next v))))
   unfolding answer
-  read_asks true address size next = (Some (this false address size), false, record {
-    answers = reading_answers address size next;
-    only = λ v lt. ((refl, tt), tt);
-    reads = (read_item false address size, refl, refl, refl, refl, (items.Access (read_item false address size) ∷ [], Cut, 0, acts 0 (positive size) cut, (0, lit< tt, refl)));
-    inputs = tt })
+  read_asks true address size next = (
+    Some (this false address size),
+    false,
+    record {
+      answers = reading_answers address size next;
+      only = λ v lt. ((refl, tt), tt);
+      reads = (read_item false address size, refl, refl, refl, refl, (items.Access (read_item false address size) ∷ [], Cut, 0, acts 0 (positive size) cut, (0, lit< tt, refl)));
+      inputs = tt;
+    },
+  )
   read_asks false address size next = (None, false, record { answers = λ r i. refl; only = tt; reads = tt; inputs = tt })
 
   write_asks : (b : Bool) (address size value : ℕ) (exit : Exit) → Asked (when b (writing place address size value (goes exit)))
@@ -220,11 +229,16 @@ module _ (place : ℕ) where
   change_asks : (b c : Bool) (address size address' size' : ℕ) (value : ℕ → ℕ) (exit : ℕ → Exit)
       → Asked (when b (reading place address size (λ v. when c (writing place address' size' (value v) (goes (exit v))))))
   unfolding answer
-  change_asks true c address size address' size' value exit = (Some (this false address size), false, record {
-    answers = changing_answers c address size address' size' value exit;
-    only = λ v lt. ((refl, tt), changing_only c (Some (this false address size)) address' size' (value v) (exit v));
-    reads = (read_item false address size, refl, refl, refl, refl, (items.Access (read_item false address size) ∷ [], Cut, 0, acts 0 (positive size) cut, (0, lit< tt, refl)));
-    inputs = tt })
+  change_asks true c address size address' size' value exit = (
+    Some (this false address size),
+    false,
+    record {
+      answers = changing_answers c address size address' size' value exit;
+      only = λ v lt. ((refl, tt), changing_only c (Some (this false address size)) address' size' (value v) (exit v));
+      reads = (read_item false address size, refl, refl, refl, refl, (items.Access (read_item false address size) ∷ [], Cut, 0, acts 0 (positive size) cut, (0, lit< tt, refl)));
+      inputs = tt;
+    },
+  )
   change_asks false c address size address' size' value exit = (None, false, record { answers = λ r i. refl; only = tt; reads = tt; inputs = tt })
 
   locking_answers : (address size : ℕ) (new : ℕ → Option ℕ) (exit : ℕ → Exit) (r i : Option ℕ) → kind (answer (given r i) no_items (locking place address size new (λ v. goes (exit v)))) ≡ expected (Some (this true address size)) false r i
@@ -238,11 +252,16 @@ module _ (place : ℕ) where
 
   lock_asks : (b : Bool) (address size : ℕ) (new : ℕ → Option ℕ) (exit : ℕ → Exit) → Asked (when b (locking place address size new (λ v. goes (exit v))))
   unfolding answer
-  lock_asks true address size new exit = (Some (this true address size), false, record {
-    answers = locking_answers address size new exit;
-    only = λ v lt. ((refl, locked_only (Some (this true address size)) (new v) address size), tt);
-    reads = (read_item true address size, refl, refl, refl, refl, (items.Access (read_item true address size) ∷ locked_write place address size (new 0) ++ [], Cut, 0, acts 0 (positive size) cut, (0, omega arith, refl)));
-    inputs = tt })
+  lock_asks true address size new exit = (
+    Some (this true address size),
+    false,
+    record {
+      answers = locking_answers address size new exit;
+      only = λ v lt. ((refl, locked_only (Some (this true address size)) (new v) address size), tt);
+      reads = (read_item true address size, refl, refl, refl, refl, (items.Access (read_item true address size) ∷ locked_write place address size (new 0) ++ [], Cut, 0, acts 0 (positive size) cut, (0, omega arith, refl)));
+      inputs = tt;
+    },
+  )
   lock_asks false address size new exit = (None, false, record { answers = λ r i. refl; only = tt; reads = tt; inputs = tt })
 
   calling_answers : (address size value : ℕ) (exit : ℕ → Exit) (r i : Option ℕ) → kind (answer (given r i) no_items (writing place address size value (takes_in place (λ v. goes (exit v))))) ≡ expected None true r i
@@ -252,11 +271,16 @@ module _ (place : ℕ) where
 
   call_in_asks : (b : Bool) (address size value : ℕ) (exit : ℕ → Exit) → Asked (when b (writing place address size value (takes_in place (λ v. goes (exit v)))))
   unfolding answer
-  call_in_asks true address size value exit = (None, true, record {
-    answers = calling_answers address size value exit;
-    only = λ v lt. ((tt, tt), λ u less. ((refl, tt), tt));
-    reads = tt;
-    inputs = (0, place, (_, Cut, 0, acts 0 (lit< tt) (acts 0 (lit< tt) cut), (1, lit< tt, refl))) })
+  call_in_asks true address size value exit = (
+    None,
+    true,
+    record {
+      answers = calling_answers address size value exit;
+      only = λ v lt. ((tt, tt), λ u less. ((refl, tt), tt));
+      reads = tt;
+      inputs = (0, place, (_, Cut, 0, acts 0 (lit< tt) (acts 0 (lit< tt) cut), (1, lit< tt, refl)));
+    },
+  )
   call_in_asks false address size value exit = (None, false, record { answers = λ r i. refl; only = tt; reads = tt; inputs = tt })
 
   call_out_asks : (b : Bool) (address size value output : ℕ) (exit : Exit) → Asked (when b (writing place address size value (puts_out place output (goes exit))))
@@ -276,16 +300,26 @@ module _ (place : ℕ) where
 
   jump_in_asks : (b : Bool) (address size : ℕ) (exit : ℕ → ℕ → Exit) → Asked (takes_in place (λ v. when b (reading place address size (λ w. goes (exit v w)))))
   unfolding answer
-  jump_in_asks true address size exit = (Some (this false address size), true, record {
-    answers = jumping_answers true address size exit;
-    only = λ v lt. ((refl, tt), λ w less. ((refl, tt), tt));
-    reads = (read_item false address size, refl, refl, refl, refl, (_, Cut, 0, acts 0 (lit< tt) (acts 0 (positive size) cut), (1, lit< tt, refl)));
-    inputs = (0, place, (_, Cut, 0, acts 0 (lit< tt) cut, (0, lit< tt, refl))) })
-  jump_in_asks false address size exit = (None, true, record {
-    answers = jumping_answers false address size exit;
-    only = λ v lt. ((refl, tt), tt);
-    reads = tt;
-    inputs = (0, place, (_, Cut, 0, acts 0 (lit< tt) cut, (0, lit< tt, refl))) })
+  jump_in_asks true address size exit = (
+    Some (this false address size),
+    true,
+    record {
+      answers = jumping_answers true address size exit;
+      only = λ v lt. ((refl, tt), λ w less. ((refl, tt), tt));
+      reads = (read_item false address size, refl, refl, refl, refl, (_, Cut, 0, acts 0 (lit< tt) (acts 0 (positive size) cut), (1, lit< tt, refl)));
+      inputs = (0, place, (_, Cut, 0, acts 0 (lit< tt) cut, (0, lit< tt, refl)));
+    },
+  )
+  jump_in_asks false address size exit = (
+    None,
+    true,
+    record {
+      answers = jumping_answers false address size exit;
+      only = λ v lt. ((refl, tt), tt);
+      reads = tt;
+      inputs = (0, place, (_, Cut, 0, acts 0 (lit< tt) cut, (0, lit< tt, refl)));
+    },
+  )
 
   returning_answers : (address size output : ℕ) (exit : ℕ → Exit) (r i : Option ℕ) → kind (answer (given r i) no_items (puts_out place output (reading place address size (λ w. goes (exit w))))) ≡ expected (Some (this false address size)) false r i
   unfolding answer
@@ -294,11 +328,16 @@ module _ (place : ℕ) where
 
   jump_out_asks : (b : Bool) (address size output : ℕ) (exit : ℕ → Exit) → Asked (puts_out place output (when b (reading place address size (λ w. goes (exit w)))))
   unfolding answer
-  jump_out_asks true address size output exit = (Some (this false address size), false, record {
-    answers = returning_answers address size output exit;
-    only = λ v lt. ((tt, tt), λ w less. ((refl, tt), tt));
-    reads = (read_item false address size, refl, refl, refl, refl, (_, Cut, 0, acts 0 (lit< tt) (acts 0 (positive size) cut), (1, lit< tt, refl)));
-    inputs = tt })
+  jump_out_asks true address size output exit = (
+    Some (this false address size),
+    false,
+    record {
+      answers = returning_answers address size output exit;
+      only = λ v lt. ((tt, tt), λ w less. ((refl, tt), tt));
+      reads = (read_item false address size, refl, refl, refl, refl, (_, Cut, 0, acts 0 (lit< tt) (acts 0 (positive size) cut), (1, lit< tt, refl)));
+      inputs = tt;
+    },
+  )
   jump_out_asks false address size output exit = (None, false, record { answers = λ r i. refl; only = λ v lt. ((tt, tt), tt); reads = tt; inputs = tt })
 
 shape_asks : {may : Permission} {place : ℕ} {row : Row} {slots : List SlotKind} → Shape may place row slots → Asked row

@@ -6,6 +6,7 @@ pub mod View
 pub mod Operands
 pub mod Steps
 pub mod Laws
+pub mod Stepping
 pub mod Spelling
 pub mod Reading
 pub mod Machine

@@ -1,6 +1,6 @@
-//! What x86-64 instructions are, how bytes spell them, and what each does: its row.
-//! Others rest on `narrow::decode_narrow`, whose answer is exactly the spelling that begins the bytes, and on the definitions `x64_row` and `x64_step`.
-//! Source: Intel SDM, volume 2 (instruction formats, MOV, RET).
+//! What each x86-64 instruction does, as its row, and the interpreter of rows; for now also how bytes spell narrow instructions.
+//! Others rest on `row`, which answers exactly what `row_of` of `specs/Rows` says, on the laws of rows, and on `x64_step` of `specs/Stepping`; for now also on `narrow::decode_narrow`.
+//! Source: Intel SDM, volume 2 (the pages of the instructions) and volume 1, chapter 3 (registers and flags).
 #![tactic(auto)]
 
 // a part of a row, or the row's answer where it ends at that part
@@ -26,5 +26,10 @@ mod step;
 mod values;
 
 pub use answer::{Next, XRow};
+pub use ev_graph::{RowItems, Wanted};
+pub use laws::{
+    rows_are_open, rows_make_slots, rows_run, rows_run_only, rows_want, steps_are_open,
+};
 pub use rows::row;
 pub use state::X64State;
+pub use x64_syntax::Flow;
