@@ -35,13 +35,14 @@ use Rattle.behavior.proofs.SeenLemmas.{full-to_trace}
 use Rattle.behavior.proofs.NumberedLemmas.{trace-numbered, given-numbered, counted-numbered, all-numbered}
 use Rattle.x64_syntax.specs.declared.placed.Placed.{Placed}
 use Rattle.x64_table.specs.State.{Thread}
-use Rattle.x64_table.specs.Machine.{no_sites}
+use Rattle.x64_table.specs.Machine.{straight_code}
 use Rattle.a64_table.proofs.BarrierLemmas.{IsBarred, a64_barred}
 use Rattle.line_read.specs.Line.{IsLine, IsStraight, IsTranslated, placed_in}
 use Rattle.line_read.proofs.CallerLemmas.{one_line}
 use Rattle.straight_line.specs.Guarded.{Guarded}
 use Rattle.straight_line.proofs.PlainRows.{IsPlain}
-use Rattle.straight_line.proofs.LineMakes.{line_open, line_makes}
+use Rattle.straight_line.proofs.LineMakes.{line_makes}
+use Rattle.x64_table.proofs.CallerLemmas.{steps_open}
 use Rattle.elf_read.specs.ElfFile.{segments_of, threads_of}
 use Rattle.elf_write.specs.Image.{code_part, kept}
 use Rattle.lasagne.specs.Threads.{x64_start, a64_start, allowed, x64_thread, a64_thread, OnThreads, OfEachThread}
@@ -123,7 +124,7 @@ module _ (input image : List ℕ) (code : ℕ) (words : List ℕ) (facts : Facts
       let may = allowed (segments_of input) x.stacks in
       let backward = facts.backward x.stacks is.fits k place.from place.to place.stack source.line place.at_from place.at_to place.at_stack source.stands in
       let translated = all_translated k place.from source.line place.at_from source.stands in
-      let traced = explanation_trace (x64_thread (segments_of input) x.stacks source.line) (line_open may source.line no_sites translated)
+      let traced = explanation_trace (x64_thread (segments_of input) x.stacks source.line) (steps_open may (straight_code (placed_in source.line)))
       (a64_thread (segments_of image) x.stacks code words) (x64_start k place.stack place.from) (a64_start k place.stack place.to) backward ran.run (unnamed source.line x.stacks k (x64_start k place.stack place.from) a.end source.items ran.made a.items ran.items source.explains) in
       record {
         place = place;
@@ -179,7 +180,7 @@ module _ (input image : List ℕ) (code : ℕ) (words : List ℕ) (facts : Facts
             let translated = all_translated k one.place.from source.line one.place.at_from source.stands in
             subst (AllByRecursion (IsPlain may)) (sym source.named)
             (all-numbered (IsPlain may) (λ c t i known. known) k 0 source.items
-            (run_makes (IsPlain may) (line_makes may source.line no_sites translated) source.explains.is_on_same.run))
+            (run_makes (IsPlain may) (line_makes may source.line translated) source.explains.is_on_same.run))
 
     -- the image's fences are DMBs, and they stand where they are needed
     barred : (t : ℕ) → AllByRecursion IsBarred (items_of x.threads t)
@@ -232,7 +233,7 @@ module _ (input image : List ℕ) (code : ℕ) (words : List ℕ) (facts : Facts
             let may = allowed (segments_of input) x.stacks in
             let translated = all_translated k place.from source.line place.at_from source.stands in
             let backward = facts.full_backward x.stacks is.fits k place.from place.to place.stack source.line place.at_from place.at_to place.at_stack source.stands in
-            let first = explanation_first (x64_thread (segments_of input) x.stacks source.line) (line_open may source.line no_sites translated) full full-to_trace
+            let first = explanation_first (x64_thread (segments_of input) x.stacks source.line) (steps_open may (straight_code (placed_in source.line))) full full-to_trace
             (a64_thread (segments_of image) x.stacks code words) (x64_start k place.stack place.from) (a64_start k place.stack place.to) backward one.ran.run
             (unnamed source.line x.stacks k (x64_start k place.stack place.from) a.end source.items one.ran.made a.items one.ran.items source.explains) in
             let own : AllByRecursion IsBarred one.ran.made = run_makes IsBarred (a64_barred (allowed (segments_of image) x.stacks) code words) one.ran.run in
@@ -380,7 +381,7 @@ module _ (input image : List ℕ) (code : ℕ) (words : List ℕ) (facts : Facts
       let line = facts.lines k place.from place.at_from in
       let may = allowed (segments_of input) x.stacks in
       let backward = facts.backward x.stacks is.fits k place.from place.to place.stack line.0 place.at_from place.at_to place.at_stack line.1 in
-      let one = explained (x64_thread (segments_of input) x.stacks line.0) (line_open may line.0 no_sites line.2)
+      let one = explained (x64_thread (segments_of input) x.stacks line.0) (steps_open may (straight_code (placed_in line.0)))
       (a64_thread (segments_of image) x.stacks code words) (x64_start k place.stack place.from) (a64_start k place.stack place.to) backward ran.run in
       let values = ap given ran.items ∙ given-numbered k 0 ran.made in
       let many = ap counted ran.items ∙ counted-numbered k 0 ran.made in

@@ -8,7 +8,7 @@ use Rattle.ev_graph.specs.Memory.{IsStack, IsOffStacks}
 use Rattle.behavior.specs.Acts.{Permission}
 use Rattle.x64_syntax.specs.declared.placed.Placed.{Placed}
 use Rattle.x64_table.specs.State.{Thread}
-use Rattle.x64_table.specs.Machine.{x64_step, no_sites}
+use Rattle.x64_table.specs.Machine.{x64_step, straight_code}
 use Rattle.a64_table.specs.Machine.{AThread, a64_step}
 use Rattle.ev_graph.specs.Memory.{Part}
 use Rattle.elf_read.specs.ElfFile.{segments_of, threads_of}
@@ -51,7 +51,7 @@ pub each_thread : (Claim : OnThreads) (input image : List ℕ) (address : ℕ) (
     → length (threads_of input) ≤ 16 → segments_of image ≡ kept (segments_of input) ++ code_part address words ∷ []
     → ((k from to : ℕ) → slice_get (threads_of input) k ≡ Some from → slice_get (threads_of image) k ≡ Some to → Carried (segments_of input) address words from to)
     → ((from to : ℕ) (line : List Placed) → Stand (placed_in line) line → CarriesLine from line address words to → (may : Permission) (s : Thread) (t : AThread) → Starts from to s t
-    → Claim (x64_step may (placed_in line) no_sites) s (a64_step may address words) t)
+    → Claim (x64_step may (straight_code (placed_in line))) s (a64_step may address words) t)
     → OfEachThread input image address words Claim
 each_thread Claim input image address words few parts carried claim stacks fits k from to stack other at_from at_to at_stack stands =
     let one = carried k from to at_from at_to in
@@ -66,5 +66,5 @@ each_thread Claim input image address words few parts carried claim stacks fits 
     let s = x64_start k stack from in
     let t = a64_start k stack to in
     subst (λ l. Claim (x64_thread (segments_of input) stacks l) s (a64_thread (segments_of image) stacks address words) t) lines
-    (subst (λ m. Claim (x64_step may (placed_in one.line) no_sites) s (a64_step m address words) t) same
+    (subst (λ m. Claim (x64_step may (straight_code (placed_in one.line))) s (a64_step m address words) t) same
     (claim from to one.line (line_found from one.line one.straight.stands) one.carries may s t starts))

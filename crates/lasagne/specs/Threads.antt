@@ -6,7 +6,7 @@ use Rattle.behavior.specs.Tree.{Tree, Next}
 use Rattle.behavior.specs.Acts.{Bank, Permission}
 use Rattle.x64_syntax.specs.declared.placed.Placed.{Placed}
 use Rattle.x64_table.specs.State.{Thread}
-use Rattle.x64_table.specs.Machine.{x64_step, no_sites}
+use Rattle.x64_table.specs.Machine.{x64_step, straight_code}
 use Rattle.a64_table.specs.Machine.{AThread, a64_step}
 use Rattle.elf_read.specs.ElfFile.{segments_of, threads_of}
 use Rattle.line_read.specs.Line.{IsLine, placed_in}
@@ -30,7 +30,7 @@ allowed parts stacks = allows (memory parts stacks)
 
 -- The machine of a thread of the input. An instruction is placed where the thread's line has it, and nowhere else.
 abbrev pub x64_thread : List Part → List Stack → List Placed → Thread → Tree (Next Thread)
-x64_thread parts stacks line = x64_step (allowed parts stacks) (placed_in line) no_sites
+x64_thread parts stacks line = x64_step (allowed parts stacks) (straight_code (placed_in line))
 
 -- the machine of a thread of the image, whose code segment has these words
 abbrev pub a64_thread : List Part → List Stack → (code_address : ℕ) → List ℕ → AThread → Tree (Next AThread)

@@ -5,6 +5,8 @@
 
 mod case;
 mod step;
+#[cfg(test)]
+mod tests;
 mod window;
 
 use case::Case;

@@ -14,7 +14,7 @@ use Rattle.behavior.proofs.Blocks.{Unfolds, AreBlocks, Advances, begins_advances
 use Rattle.x64_syntax.specs.declared.placed.Placed.{Placed}
 use Rattle.x64_table.specs.State.{Thread}
 use Rattle.x64_table.specs.Rows.{Exit, State, Return, Indexed}
-use Rattle.x64_table.specs.Machine.{resolve, no_sites, x64_step}
+use Rattle.x64_table.specs.Machine.{straight_code, no_sites, no_entries, resolve, x64_step}
 use Rattle.a64_code.specs.declared.instr.XReg.{XReg}
 use Rattle.a64_code.specs.declared.instr.A64.{A64}
 use Rattle.a64_code.specs.declared.instr.A64.TheVariants as words
@@ -45,7 +45,7 @@ popped (Return s v) r (j, (i, returned, same), selected) =
 
 -- the ending does what the return does
 ends_alike : (v : ℕ) (b : Bool) → (v == 0) ≡ b → (may : Permission) (at end : ℕ) (s : Thread) (t : AState) → low true (value xregs t (x 16)) ≡ v
-    → Beside full 24 (SameNext (λ (a : Thread) (c : AThread). ⊥)) 2 (resolve no_sites (Return s v)) (a64_words xregs may at ending 0 t then lands end)
+    → Beside full 24 (SameNext (λ (a : Thread) (c : AThread). ⊥)) 2 (resolve no_sites no_entries (Return s v)) (a64_words xregs may at ending 0 t then lands end)
 ends_alike v true e may at end s t same =
     let zero' : (low true (value xregs t (x 16)) == 0) ≡ true = ap (λ k. k == 0) same ∙ e in
     rw (e, zero') (spend {less = 1} {more = 2} (omega arith) (spend {less = 0} {more = 1} (omega arith) (give both-stop)))
@@ -58,13 +58,13 @@ Never s t = ⊥
 
 -- where a line's rows and the words stand alike, their endings do
 ends_keep : (may : Permission) (at end : ℕ) (e : Exit) (r : ℕ × AState) → Popped e r
-    → Keeps full 24 2 (SameNext Never) (resolve no_sites e) (a64_words xregs may at ending r.0 r.1 then lands end)
+    → Keeps full 24 2 (SameNext Never) (resolve no_sites no_entries e) (a64_words xregs may at ending r.0 r.1 then lands end)
 ends_keep may at end (State s) r same = absurd same
 ends_keep may at end (Indexed s v) r same = absurd same
 ends_keep may at end (Return s v) r same =
     let read : low true (value xregs r.1 (x 16)) ≡ v = omega (arith, same.1, same.2) in
     let here = beside_keeps full sees-full 24 (SameNext Never) (ends_alike v (v == 0) refl may at end s r.1 read) in
-    subst (λ k. Keeps full 24 2 (SameNext Never) (resolve no_sites (Return s v)) (a64_words xregs may at ending k r.1 then lands end)) (sym same.0) here
+    subst (λ k. Keeps full 24 2 (SameNext Never) (resolve no_sites no_entries (Return s v)) (a64_words xregs may at ending k r.1 then lands end)) (sym same.0) here
 
 -- three passes relate results by way of two forms between
 passes_next : (a : Next Exit) (c : Next (ℕ × AState)) → Through (Through (SameNext Returned) (SameNext IsSameBank)) (SameNext Selected) a c → SameNext Popped a c
@@ -106,13 +106,13 @@ code_parts may code end ws s =
     ∙ ap (λ t. t then lands end) (sym (words-append xregs may ws ending code 0 s))
 
 pub threads_keep : (first code : ℕ) (p : Placed) (ps : List Placed) (ws : List (A64 XReg)) → Passes first (p ∷ ps) ws → (may : Permission) (s : Thread) (t : AThread) → Starts first code s t
-    → Keeps full 256 0 (SameNext (Starts first code)) (x64_rows may (p ∷ ps) s then resolve no_sites) (code_tree may code ws t)
+    → Keeps full 256 0 (SameNext (Starts first code)) (x64_rows may (p ∷ ps) s then resolve no_sites no_entries) (code_tree may code ws t)
 threads_keep first code p ps ws passes may s t starts =
     let end = code + 4 * length (ws ++ ending) in
     let rows = rows_keep first code (p ∷ ps) ws passes may s t starts in
-    let both = keeps_then_more full sees-full 24 0 2 Popped Never (resolve no_sites) (λ r. a64_words xregs may (code + 4 * length ws) ending r.0 r.1 then lands end)
+    let both = keeps_then_more full sees-full 24 0 2 Popped Never (resolve no_sites no_entries) (λ r. a64_words xregs may (code + 4 * length ws) ending r.0 r.1 then lands end)
     (ends_keep may (code + 4 * length ws) end) rows in
-    let whole = subst (λ u. Keeps full 24 2 (SameNext Never) (x64_rows may (p ∷ ps) s then resolve no_sites) u) (code_parts may code end ws t.state) both in
+    let whole = subst (λ u. Keeps full 24 2 (SameNext Never) (x64_rows may (p ∷ ps) s then resolve no_sites no_entries) u) (code_parts may code end ws t.state) both in
     let paid = keeps_first full 24 2 (SameNext Never) whole in
     let faster = keeps_faster full 26 256 0 (SameNext Never) (omega arith) paid in
     keeps_wider full 256 0 0 (SameNext Never) (SameNext (Starts first code)) (omega arith) (next_wider (λ a c never. absurd never)) faster
@@ -120,9 +120,9 @@ threads_keep first code p ps ws passes may s t starts =
 -- ---- the machines
 
 pub source_blocks : (may : Permission) (placed : ℕ → Option Placed) (first : ℕ) (p : Placed) (ps : List Placed) → IsStraight first (p ∷ ps) → Stand placed (p ∷ ps)
-    → AreBlocks (x64_step may placed no_sites) (λ (s : Thread). s.at ≡ first) (λ s. x64_rows may (p ∷ ps) s then resolve no_sites)
+    → AreBlocks (x64_step may (straight_code placed)) (λ (s : Thread). s.at ≡ first) (λ s. x64_rows may (p ∷ ps) s then resolve no_sites no_entries)
 source_blocks may placed first p ps straight found = record {
-  unfolds = λ s at. line_unfolds may placed no_sites p ps first straight.translated straight.stands found s at;
+  unfolds = λ s at. line_unfolds may placed p ps first straight.translated straight.stands found s at;
   advances = λ s at. begins_advances _;
 }
 

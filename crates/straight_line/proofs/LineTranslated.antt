@@ -11,7 +11,7 @@ use Rattle.behavior.proofs.KeepsLemmas.{keeps_coarser}
 use Rattle.behavior.proofs.SeenLemmas.{sees-full, full-to_trace}
 use Rattle.behavior.specs.Kept.{SameNext}
 use Rattle.x64_syntax.specs.declared.placed.Placed.{Placed}
-use Rattle.x64_table.specs.Machine.{resolve, no_sites, x64_step}
+use Rattle.x64_table.specs.Machine.{straight_code, no_sites, no_entries, resolve, x64_step}
 use Rattle.a64_code.specs.declared.instr.XReg.{XReg}
 use Rattle.a64_code.specs.declared.instr.A64.{A64}
 use Rattle.a64_code.specs.Ranges.{IsEncodable}
@@ -33,9 +33,9 @@ carries_cons : (first code : ℕ) (all : List ℕ) (entry : ℕ) (p : Placed) (p
     → StandAt code all entry (ws ++ ending) → Forwards ws → entry + 4 * length (ws ++ ending) < 2 ^ 63 → CarriesLine first (p ∷ ps) code all entry
 carries_cons first code all entry p ps ws straight passes steps selects stand forward low = record {
   guarded = λ may t at fit made end n run. runs_guarded may code all entry steps ws selects stand forward low t at fit run;
-  backward = λ may placed found s t starts made end n run. blocks-back full sees-full 256 (Starts first entry) (x64_step may placed no_sites) (λ s. x64_rows may (p ∷ ps) s then resolve no_sites) (λ s. s.at ≡ first) (source_blocks may placed first p ps straight found)
+  backward = λ may placed found s t starts made end n run. blocks-back full sees-full 256 (Starts first entry) (x64_step may (straight_code placed)) (λ s. x64_rows may (p ∷ ps) s then resolve no_sites no_entries) (λ s. s.at ≡ first) (source_blocks may placed first p ps straight found)
       (a64_step may code all) (code_tree may entry ws) (λ t. t.at ≡ entry) (target_blocks may code all entry ws stand forward low) (leads first entry) (threads_keep first entry p ps ws passes may) s t starts made end n run;
-  forward = λ may placed found s t starts. blocks_forward 256 (Starts first entry) (x64_step may placed no_sites) (λ s. x64_rows may (p ∷ ps) s then resolve no_sites) (λ s. s.at ≡ first) (source_blocks may placed first p ps straight found)
+  forward = λ may placed found s t starts. blocks_forward 256 (Starts first entry) (x64_step may (straight_code placed)) (λ s. x64_rows may (p ∷ ps) s then resolve no_sites no_entries) (λ s. s.at ≡ first) (source_blocks may placed first p ps straight found)
       (a64_step may code all) (code_tree may entry ws) (λ t. t.at ≡ entry) (target_blocks may code all entry ws stand forward low) (leads first entry)
       (λ s t starts. keeps_coarser full trace 256 0 (SameNext (Starts first entry)) full-to_trace (threads_keep first entry p ps ws passes may s t starts)) s t starts;
 }

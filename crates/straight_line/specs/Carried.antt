@@ -8,7 +8,7 @@ use Rattle.behavior.specs.Seen.{lowered, full}
 use Rattle.behavior.specs.Kept.{BackwardBy, Forward}
 use Rattle.x64_syntax.specs.declared.placed.Placed.{Placed}
 use Rattle.x64_table.specs.State.{Thread}
-use Rattle.x64_table.specs.Machine.{x64_step, no_sites}
+use Rattle.x64_table.specs.Machine.{x64_step, straight_code}
 use Rattle.a64_table.specs.Machine.{AThread, a64_step}
 use Rattle.line_read.specs.Line.{Stand}
 use Rattle.straight_line.specs.Guarded.{Guarded}
@@ -25,9 +25,9 @@ pub record Starts (first entry : ℕ) (s : Thread) (t : AThread) : Type 0 where
 -- begun n instructions by one of the words that has begun at most 256 n words.
 pub record CarriesLine (first : ℕ) (line : List Placed) (code : ℕ) (words : List ℕ) (entry : ℕ) : Type 0 where
   pub backward : (may : Permission) (placed : ℕ → Option Placed) → Stand placed line → (s : Thread) (t : AThread) → Starts first entry s t
-      → BackwardBy full (x64_step may placed no_sites) s (a64_step may code words) t
+      → BackwardBy full (x64_step may (straight_code placed)) s (a64_step may code words) t
   pub forward : (may : Permission) (placed : ℕ → Option Placed) → Stand placed line → (s : Thread) (t : AThread) → Starts first entry s t
-      → Forward 256 (x64_step may placed no_sites) s (a64_step may code words) t
+      → Forward 256 (x64_step may (straight_code placed)) s (a64_step may code words) t
   -- and each run of the words has a load barrier between a read and each later access, and a store barrier between writes
   pub guarded : (may : Permission) (t : AThread) → t.at ≡ entry → ((n : ℕ) → t.state.regs n < 2 ^ 64) → (made : List Item) (end : End) (n : ℕ)
       → Run (a64_step may code words) t made end n → Guarded false false (lowered made)

@@ -1,3 +1,5 @@
+pub mod CallerLemmas
+pub mod MachineLemmas
 pub mod OpenLemmas
 mod OperandLemmas
 mod PermissionLemmas

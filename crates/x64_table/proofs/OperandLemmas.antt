@@ -1,5 +1,5 @@
 -- Operands of formed instructions, and what narrower words of an extension are.
-use Rattle.std.proofs.Common.{◌≡◌, ℕ, ◌<◌, ◌≤◌, ◌^◌, ◌%◌, sym, ◌⊎◌, inl, inr, arith}
+use Rattle.std.proofs.Common.{◌≡◌, ℕ, ◌≤◌, ◌^◌, ◌%◌, inl, inr, arith}
 use Rattle.word_arith.specs.Signed.{sign_extend, signed}
 use Rattle.word_arith.proofs.CallerLemmas.{low_bits-mod}
 use Rattle.x64_syntax.specs.Operands.{bits}

@@ -1,5 +1,5 @@
 -- The test of a permission.
-use Rattle.std.proofs.Common.{◌≡◌, ℕ, zero, suc, ◌+◌, ◌<◌, ◌&&◌, Bool, true, false, Option, sym, ◌∙◌, ap, refl, subst, arith, rules}
+use Rattle.std.proofs.Common.{◌≡◌, ℕ, zero, suc, ◌+◌, ◌&&◌, Bool, true, false, Option, sym, ◌∙◌, ap, refl, subst, arith}
 use Rattle.std.specs.Prelude.{IsTrue, ◌↔◌}
 use Rattle.ev_graph.specs.Memory.{Cell, permits, Allows, allows}
 

@@ -44,7 +44,7 @@ AllRuns P so_far (Gives next) = P so_far next
 AllRuns P so_far (Begins t) = AllRuns P so_far t
 AllRuns P so_far (Acts range made next) = (v : ℕ) → v < range → AllRuns P (so_far ++ made v) (next v)
 
-each_run : (P : List Item → Next Exit → Type 0) (so_far : List Item) {row : Row} {made : List Item} {next : Next Exit} {n : ℕ} → AllRuns P so_far row → Path row made (At next) n → P (so_far ++ made) next
+pub each_run : (P : List Item → Next Exit → Type 0) (so_far : List Item) {row : Row} {made : List Item} {next : Next Exit} {n : ℕ} → AllRuns P so_far row → Path row made (At next) n → P (so_far ++ made) next
 each_run P so_far {next = next} all gives = subst (λ made. P made next) (nothing_more so_far) all
   where
     nothing_more : (xs : List Item) → xs ≡ xs ++ []

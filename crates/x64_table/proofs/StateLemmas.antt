@@ -1,5 +1,5 @@
 -- The interpreter's state as a thread.
-use Rattle.std.proofs.Common.{◌≡◌, ℕ, ◌+◌, ◌*◌, ◌%◌, ◌<◌, ◌^◌, ◌==◌, Bool, true, false, List, length, get_or, set, sym, ◌∙◌, ap, arith, w64, ℤ, pos, negsuc, ◌+ℤ◌, of_z, FitsSigned, suc, ◌-◌, ◌/◌, refl}
+use Rattle.std.proofs.Common.{◌≡◌, ℕ, ◌+◌, ◌%◌, ◌<◌, ◌^◌, ◌==◌, List, length, get_or, set, sym, ◌∙◌, ap, arith, w64, ℤ, pos, negsuc, ◌+ℤ◌, of_z, FitsSigned, suc, ◌-◌, ◌/◌}
 use Rattle.std.proofs.lemmas.Int.{ints}
 use Rattle.std.proofs.Math.Nat.{mod-add-div, add-mod-mod, mod-add-mod}
 use Rattle.std.specs.Prelude.{if◌then◌else◌, slice_index}

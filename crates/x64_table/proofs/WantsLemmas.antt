@@ -1,6 +1,6 @@
 -- Which value each row wants, and when.
-use Rattle.std.proofs.Common.{◌≡◌, ℕ, suc, zero, ◌+◌, ◌^◌, ◌%◌, ◌<◌, ◌&&◌, Bool, true, false, List, [], ◌∷◌, ◌++◌, Option, Some, None, refl, sym, ap, ◌∙◌, subst, lit<, arith, length}
-use Rattle.std.specs.Prelude.{if◌then◌else◌, Contains, IfSome, slice_index_or}
+use Rattle.std.proofs.Common.{◌≡◌, ℕ, suc, zero, ◌<◌, ◌&&◌, Bool, true, false, List, [], ◌∷◌, ◌++◌, Option, Some, None, refl, sym, ap, ◌∙◌, subst, lit<, arith, length}
+use Rattle.std.specs.Prelude.{if◌then◌else◌, IfSome, slice_index_or}
 use Rattle.std.specs.List.{AllByRecursion}
 use Rattle.ev_graph.specs.declared.events.FenceKind.TheVariants.{Mfence}
 use Rattle.ev_graph.specs.declared.events.Access.{Access}
@@ -9,8 +9,8 @@ use Rattle.ev_graph.specs.declared.events.AccessKind.TheVariants as kinds
 use Rattle.ev_graph.specs.declared.events.Item.{Item}
 use Rattle.ev_graph.specs.declared.events.Item.TheVariants as items
 use Rattle.ev_graph.specs.declared.rows.Wanted.{Wanted}
-use Rattle.behavior.specs.Tree.{Tree, Gives, Begins, Acts, Point, Cut, Path, cut, gives, begins, acts, Next, Goes, Stops}
-use Rattle.behavior.specs.Acts.{Permission, goes, access, fences_at, takes_in, puts_out, locked_write}
+use Rattle.behavior.specs.Tree.{Gives, Point, Cut, Path, cut, gives, begins, acts, Next, Stops}
+use Rattle.behavior.specs.Acts.{Permission, goes, fences_at, takes_in, puts_out, locked_write}
 use Rattle.behavior.proofs.Makes.{AllMakes}
 use Rattle.x64_syntax.specs.declared.slots.SlotKind.{SlotKind}
 use Rattle.x64_table.specs.Rows.{Exit, Row, row_of}

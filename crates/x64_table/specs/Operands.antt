@@ -1,5 +1,5 @@
 -- Operands that have a value of a width.
-use Rattle.std.specs.Prelude.{ℕ, ◌<◌, ◌^◌}
+use Rattle.std.specs.Prelude.{◌<◌, ◌^◌}
 use Rattle.x64_syntax.specs.Formed.{IsMemory, IsRegister}
 use Rattle.x64_syntax.specs.Operands.{bits}
 use Rattle.x64_syntax.specs.declared.operand.Operand.{Operand}

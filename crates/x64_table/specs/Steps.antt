@@ -1,5 +1,5 @@
 -- Parts of rows as the interpreter takes them; only contracts of private functions cite this.
-use Rattle.std.specs.Prelude.{ℕ, Bool, true, false, Option, Some, None}
+use Rattle.std.specs.Prelude.{ℕ, Bool, true, Option, Some, None}
 use Rattle.ev_graph.specs.declared.rows.RowItems.{RowItems}
 use Rattle.behavior.specs.Tree.{Goes}
 use Rattle.behavior.specs.Acts.{Permission, locked_write}

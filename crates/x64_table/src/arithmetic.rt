@@ -30,7 +30,10 @@ impl<S: StartMemory> Step<'_, S> {
     ) -> XRow
         requires to { IsSource w to.now }
         requires from { IsSource w from.now }
-        ensures { says result ≡ answer (given self.now.read self.now.input) no_items (alu_row (allows (S.cells self.now.memory.now)) self.now.place op w to.now from.now locked (thread_of self.now.thread)) }
+        ensures { says result
+            ≡ answer (given self.now.read self.now.input) no_items
+            (alu_row (allows (S.cells self.now.memory.now)) self.now.place op w to.now from.now
+            locked (thread_of self.now.thread)) }
     {
         match op {
             AluOp::Cmp => self.compare(op, w, to, from),
@@ -48,7 +51,10 @@ impl<S: StartMemory> Step<'_, S> {
     fn combine(&self, op: AluOp, w: Width, to: &Operand, from: &Operand, locked: bool) -> XRow
         requires to { IsSource w to.now }
         requires from { IsSource w from.now }
-        ensures { says result ≡ answer (given self.now.read self.now.input) no_items (combine_row (allows (S.cells self.now.memory.now)) self.now.place op w to.now from.now locked (thread_of self.now.thread)) }
+        ensures { says result
+            ≡ answer (given self.now.read self.now.input) no_items
+            (combine_row (allows (S.cells self.now.memory.now)) self.now.place op w to.now
+            from.now locked (thread_of self.now.thread)) }
     {
         let source = or_return!(self.fetch(nothing(), w, from));
         self.combine_with(source, op, w, to, locked)
@@ -57,7 +63,11 @@ impl<S: StartMemory> Step<'_, S> {
     fn combine_with(&self, source: Loaded, op: AluOp, w: Width, to: &Operand, locked: bool) -> XRow
         requires to { IsSource w to.now }
         requires source { source.value < 2 ^ bits w }
-        ensures { says result ≡ answer (given self.now.read self.now.input) source.made (becomes (allows (S.cells self.now.memory.now)) self.now.place locked w to.now (thread_of self.now.thread) (λ a. alu_outcome op (bits w) a source.value (thread_of self.now.thread).flags)) }
+        ensures { says result
+            ≡ answer (given self.now.read self.now.input) source.made
+            (becomes (allows (S.cells self.now.memory.now)) self.now.place locked w to.now
+            (thread_of self.now.thread) (λ a. alu_outcome op (bits w) a source.value
+            (thread_of self.now.thread).flags)) }
     {
         let old = or_return!(self.begin_change(source.made, locked, w, to));
         let outcome = combine(op, w, old.value, source.value, self.flags());
@@ -69,7 +79,10 @@ impl<S: StartMemory> Step<'_, S> {
     pub(crate) fn compare(&self, op: AluOp, w: Width, to: &Operand, from: &Operand) -> XRow
         requires to { IsSource w to.now }
         requires from { IsSource w from.now }
-        ensures { says result ≡ answer (given self.now.read self.now.input) no_items (compare_row (allows (S.cells self.now.memory.now)) self.now.place op w to.now from.now (thread_of self.now.thread)) }
+        ensures { says result
+            ≡ answer (given self.now.read self.now.input) no_items
+            (compare_row (allows (S.cells self.now.memory.now)) self.now.place op w to.now
+            from.now (thread_of self.now.thread)) }
     {
         let first = or_return!(self.fetch(nothing(), w, to));
         self.compare_with(first, op, w, from)
@@ -78,7 +91,12 @@ impl<S: StartMemory> Step<'_, S> {
     fn compare_with(&self, first: Loaded, op: AluOp, w: Width, from: &Operand) -> XRow
         requires from { IsSource w from.now }
         requires first { first.value < 2 ^ bits w }
-        ensures { says result ≡ answer (given self.now.read self.now.input) first.made (fetches (allows (S.cells self.now.memory.now)) self.now.place w from.now (thread_of self.now.thread) (λ b. leaves (with_flags (alu_outcome op (bits w) first.value b (thread_of self.now.thread).flags).flags (thread_of self.now.thread)))) }
+        ensures { says result
+            ≡ answer (given self.now.read self.now.input) first.made
+            (fetches (allows (S.cells self.now.memory.now)) self.now.place w from.now
+            (thread_of self.now.thread) (λ b. leaves (with_flags (alu_outcome op (bits w)
+            first.value b (thread_of self.now.thread).flags).flags
+            (thread_of self.now.thread)))) }
     {
         let second = or_return!(self.fetch(first.made, w, from));
         let outcome = combine(op, w, first.value, second.value, self.flags());
@@ -95,7 +113,11 @@ impl<S: StartMemory> Step<'_, S> {
         outcome: Outcome,
     ) -> XRow
         requires { IsSource w to.now }
-        ensures { says result ≡ ends_change (allows (S.cells self.now.memory.now)) self.now.place (given self.now.read self.now.input) made locked w to.now (thread_of self.now.thread) outcome.value (with_flags outcome.flags (thread_of self.now.thread)) }
+        ensures { says result
+            ≡ ends_change (allows (S.cells self.now.memory.now)) self.now.place
+            (given self.now.read self.now.input) made locked w to.now
+            (thread_of self.now.thread) outcome.value (with_flags outcome.flags
+            (thread_of self.now.thread)) }
     {
         let after = self.thread.with_flags(outcome.flags);
         self.end_change(made, locked, w, to, outcome.value, &after)
@@ -104,7 +126,11 @@ impl<S: StartMemory> Step<'_, S> {
     /// INC.
     pub(crate) fn increase(&self, w: Width, to: &Operand, locked: bool) -> XRow
         requires { IsSource w to.now }
-        ensures { says result ≡ answer (given self.now.read self.now.input) no_items (becomes (allows (S.cells self.now.memory.now)) self.now.place locked w to.now (thread_of self.now.thread) (λ a. inc_outcome (bits w) a (thread_of self.now.thread).flags)) }
+        ensures { says result
+            ≡ answer (given self.now.read self.now.input) no_items
+            (becomes (allows (S.cells self.now.memory.now)) self.now.place locked w to.now
+            (thread_of self.now.thread) (λ a. inc_outcome (bits w) a
+            (thread_of self.now.thread).flags)) }
     {
         let old = or_return!(self.begin_change(nothing(), locked, w, to));
         let outcome = increase(w, old.value, self.flags());
@@ -114,7 +140,11 @@ impl<S: StartMemory> Step<'_, S> {
     /// DEC.
     pub(crate) fn decrease(&self, w: Width, to: &Operand, locked: bool) -> XRow
         requires { IsSource w to.now }
-        ensures { says result ≡ answer (given self.now.read self.now.input) no_items (becomes (allows (S.cells self.now.memory.now)) self.now.place locked w to.now (thread_of self.now.thread) (λ a. dec_outcome (bits w) a (thread_of self.now.thread).flags)) }
+        ensures { says result
+            ≡ answer (given self.now.read self.now.input) no_items
+            (becomes (allows (S.cells self.now.memory.now)) self.now.place locked w to.now
+            (thread_of self.now.thread) (λ a. dec_outcome (bits w) a
+            (thread_of self.now.thread).flags)) }
     {
         let old = or_return!(self.begin_change(nothing(), locked, w, to));
         let outcome = decrease(w, old.value, self.flags());
@@ -124,7 +154,10 @@ impl<S: StartMemory> Step<'_, S> {
     /// NEG.
     pub(crate) fn negate(&self, w: Width, to: &Operand) -> XRow
         requires { IsSource w to.now }
-        ensures { says result ≡ answer (given self.now.read self.now.input) no_items (becomes (allows (S.cells self.now.memory.now)) self.now.place false w to.now (thread_of self.now.thread) (neg_outcome (bits w))) }
+        ensures { says result
+            ≡ answer (given self.now.read self.now.input) no_items
+            (becomes (allows (S.cells self.now.memory.now)) self.now.place false w to.now
+            (thread_of self.now.thread) (neg_outcome (bits w))) }
     {
         let old = or_return!(self.begin_change(nothing(), false, w, to));
         self.end_with(old.made, false, w, to, negate(w, old.value))
@@ -133,7 +166,10 @@ impl<S: StartMemory> Step<'_, S> {
     /// NOT.
     pub(crate) fn complement(&self, w: Width, to: &Operand, locked: bool) -> XRow
         requires { IsSource w to.now }
-        ensures { says result ≡ answer (given self.now.read self.now.input) no_items (changes (allows (S.cells self.now.memory.now)) self.now.place locked w to.now (thread_of self.now.thread) (not_value (bits w)) (λ a. (thread_of self.now.thread))) }
+        ensures { says result
+            ≡ answer (given self.now.read self.now.input) no_items
+            (changes (allows (S.cells self.now.memory.now)) self.now.place locked w to.now
+            (thread_of self.now.thread) (not_value (bits w)) (λ a. (thread_of self.now.thread))) }
     {
         let old = or_return!(self.begin_change(nothing(), locked, w, to));
         self.end_change(
@@ -151,7 +187,10 @@ impl<S: StartMemory> Step<'_, S> {
     pub(crate) fn exchange(&self, w: Width, to: &Operand, from: &Operand, locked: bool) -> XRow
         requires to { IsSource w to.now }
         requires from { IsSource w from.now }
-        ensures { says result ≡ answer (given self.now.read self.now.input) no_items (xchg_row (allows (S.cells self.now.memory.now)) self.now.place w to.now from.now locked (thread_of self.now.thread)) }
+        ensures { says result
+            ≡ answer (given self.now.read self.now.input) no_items
+            (xchg_row (allows (S.cells self.now.memory.now)) self.now.place w to.now from.now
+            locked (thread_of self.now.thread)) }
     {
         let old = or_return!(self.begin_change(nothing(), locked, w, to));
         let after = self.thread.with_operand(w, from, old.value);
@@ -163,7 +202,10 @@ impl<S: StartMemory> Step<'_, S> {
     pub(crate) fn exchange_add(&self, w: Width, to: &Operand, from: &Operand, locked: bool) -> XRow
         requires to { IsSource w to.now }
         requires from { IsSource w from.now }
-        ensures { says result ≡ answer (given self.now.read self.now.input) no_items (xadd_row (allows (S.cells self.now.memory.now)) self.now.place w to.now from.now locked (thread_of self.now.thread)) }
+        ensures { says result
+            ≡ answer (given self.now.read self.now.input) no_items
+            (xadd_row (allows (S.cells self.now.memory.now)) self.now.place w to.now from.now
+            locked (thread_of self.now.thread)) }
     {
         let old = or_return!(self.begin_change(nothing(), locked, w, to));
         let outcome = combine(AluOp::Add, w, old.value, self.held(w, from), self.flags());
@@ -179,7 +221,10 @@ impl<S: StartMemory> Step<'_, S> {
     pub(crate) fn compare_exchange(&self, w: Width, to: &Operand, from: &Operand) -> XRow
         requires to { IsSource w to.now }
         requires from { IsSource w from.now }
-        ensures { says result ≡ answer (given self.now.read self.now.input) no_items (cmpxchg_row (allows (S.cells self.now.memory.now)) self.now.place w to.now from.now (thread_of self.now.thread)) }
+        ensures { says result
+            ≡ answer (given self.now.read self.now.input) no_items
+            (cmpxchg_row (allows (S.cells self.now.memory.now)) self.now.place w to.now from.now
+            (thread_of self.now.thread)) }
     {
         let address = self.address_of(to);
         let old = or_return!(self.lock(nothing(), w, address));

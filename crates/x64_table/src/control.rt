@@ -21,14 +21,21 @@ impl<S: StartMemory> Step<'_, S> {
     #[tactic(auto, unfolding(crate::specs::Rows::push_row))]
     pub(crate) fn push(&self, from: &Operand) -> XRow
         requires { IsSource Width.Quad from.now }
-        ensures { says result ≡ answer (given self.now.read self.now.input) no_items (push_row (allows (S.cells self.now.memory.now)) self.now.place from.now (thread_of self.now.thread)) }
+        ensures { says result
+            ≡ answer (given self.now.read self.now.input) no_items
+            (push_row (allows (S.cells self.now.memory.now)) self.now.place from.now
+            (thread_of self.now.thread)) }
     {
         let source = or_return!(self.fetch(nothing(), Width::Quad, from));
         self.push_value(source.made, source.value)
     }
 
     fn push_value(&self, made: RowItems, value: u64) -> XRow
-        ensures { says result ≡ answer (given self.now.read self.now.input) made (writes (allows (S.cells self.now.memory.now)) self.now.place (below_stack (thread_of self.now.thread)) 8 value (leaves (pushed (thread_of self.now.thread)))) }
+        ensures { says result
+            ≡ answer (given self.now.read self.now.input) made
+            (writes (allows (S.cells self.now.memory.now)) self.now.place
+            (below_stack (thread_of self.now.thread)) 8 value
+            (leaves (pushed (thread_of self.now.thread)))) }
     {
         let made = or_return!(self.write(made, Width::Quad, self.thread.below_stack(), value));
         self.leave(made, self.thread.pushed())
@@ -38,7 +45,10 @@ impl<S: StartMemory> Step<'_, S> {
     #[tactic(auto, unfolding(crate::specs::Rows::pop_row))]
     pub(crate) fn pop(&self, to: &Operand) -> XRow
         requires { IsSource Width.Quad to.now }
-        ensures { says result ≡ answer (given self.now.read self.now.input) no_items (pop_row (allows (S.cells self.now.memory.now)) self.now.place to.now (thread_of self.now.thread)) }
+        ensures { says result
+            ≡ answer (given self.now.read self.now.input) no_items
+            (pop_row (allows (S.cells self.now.memory.now)) self.now.place to.now
+            (thread_of self.now.thread)) }
     {
         let top = self.thread.register(Width::Quad, RSP);
         let read = or_return!(self.read(nothing(), Width::Quad, top));
@@ -49,7 +59,10 @@ impl<S: StartMemory> Step<'_, S> {
     /// LEAVE.
     #[tactic(auto, unfolding(crate::specs::Rows::leave_row))]
     pub(crate) fn leave_frame(&self) -> XRow
-        ensures { says result ≡ answer (given self.now.read self.now.input) no_items (leave_row (allows (S.cells self.now.memory.now)) self.now.place (thread_of self.now.thread)) }
+        ensures { says result
+            ≡ answer (given self.now.read self.now.input) no_items
+            (leave_row (allows (S.cells self.now.memory.now)) self.now.place
+            (thread_of self.now.thread)) }
     {
         let frame = self.thread.register(Width::Quad, RBP);
         let read = or_return!(self.read(nothing(), Width::Quad, frame));
@@ -63,7 +76,10 @@ impl<S: StartMemory> Step<'_, S> {
     /// RET, and what a jump to a listed function does in the end, from the state `thread`.
     #[tactic(auto, unfolding(crate::specs::Rows::returns, crate::specs::Answers::answer, crate::specs::View::says))]
     pub(crate) fn return_from(&self, made: RowItems, thread: &X64State) -> XRow
-        ensures { says result ≡ answer (given self.now.read self.now.input) made (returns (allows (S.cells self.now.memory.now)) self.now.place (thread_of thread.now)) }
+        ensures { says result
+            ≡ answer (given self.now.read self.now.input) made
+            (returns (allows (S.cells self.now.memory.now)) self.now.place
+            (thread_of thread.now)) }
     {
         let top = thread.register(Width::Quad, RSP);
         let read = or_return!(self.read(made, Width::Quad, top));
@@ -73,7 +89,10 @@ impl<S: StartMemory> Step<'_, S> {
     /// CALL by a displacement.
     #[tactic(auto, unfolding(crate::specs::Rows::call_row))]
     pub(crate) fn call(&self, flow: Flow, displacement: u64) -> XRow
-        ensures { says result ≡ answer (given self.now.read self.now.input) no_items (call_row (allows (S.cells self.now.memory.now)) self.now.place flow displacement (thread_of self.now.thread)) }
+        ensures { says result
+            ≡ answer (given self.now.read self.now.input) no_items
+            (call_row (allows (S.cells self.now.memory.now)) self.now.place flow displacement
+            (thread_of self.now.thread)) }
     {
         let made = or_return!(self.write(
             nothing(),
@@ -87,7 +106,10 @@ impl<S: StartMemory> Step<'_, S> {
     /// What a call does once it has written the address after it.
     #[tactic(auto, unfolding(crate::specs::Rows::called))]
     fn called(&self, made: RowItems, flow: Flow, displacement: u64) -> XRow
-        ensures { says result ≡ answer (given self.now.read self.now.input) made (called (allows (S.cells self.now.memory.now)) self.now.place flow displacement (thread_of self.now.thread)) }
+        ensures { says result
+            ≡ answer (given self.now.read self.now.input) made
+            (called (allows (S.cells self.now.memory.now)) self.now.place flow displacement
+            (thread_of self.now.thread)) }
     {
         match flow {
             Flow::ListedIn => self.call_in(made),
@@ -99,7 +121,9 @@ impl<S: StartMemory> Step<'_, S> {
     }
 
     fn call_in(&self, made: RowItems) -> XRow
-        ensures { says result ≡ answer (given self.now.read self.now.input) made (takes_in self.now.place (λ v. leaves (set Width.Quad rax v (thread_of self.now.thread)))) }
+        ensures { says result
+            ≡ answer (given self.now.read self.now.input) made (takes_in self.now.place (λ v.
+            leaves (set Width.Quad rax v (thread_of self.now.thread)))) }
     {
         let input = self.take_in(made);
         let after = self.thread.with_register(Width::Quad, RAX, input.value);
@@ -107,7 +131,10 @@ impl<S: StartMemory> Step<'_, S> {
     }
 
     fn call_out(&self, made: RowItems) -> XRow
-        ensures { says result ≡ answer (given self.now.read self.now.input) made (puts_out self.now.place (register Width.Quad rdi (thread_of self.now.thread)) (leaves (thread_of self.now.thread))) }
+        ensures { says result
+            ≡ answer (given self.now.read self.now.input) made (puts_out self.now.place
+            (register Width.Quad rdi (thread_of self.now.thread))
+            (leaves (thread_of self.now.thread))) }
     {
         let made = self.put_out(made, self.thread.register(Width::Quad, RDI));
         self.leave(made, self.thread)
@@ -116,7 +143,10 @@ impl<S: StartMemory> Step<'_, S> {
     /// JMP by a displacement.
     #[tactic(auto, unfolding(crate::specs::Rows::jmp_row))]
     pub(crate) fn jump(&self, flow: Flow, displacement: u64) -> XRow
-        ensures { says result ≡ answer (given self.now.read self.now.input) no_items (jmp_row (allows (S.cells self.now.memory.now)) self.now.place flow displacement (thread_of self.now.thread)) }
+        ensures { says result
+            ≡ answer (given self.now.read self.now.input) no_items
+            (jmp_row (allows (S.cells self.now.memory.now)) self.now.place flow displacement
+            (thread_of self.now.thread)) }
     {
         match flow {
             Flow::ListedIn => self.jump_in(nothing()),
@@ -129,7 +159,10 @@ impl<S: StartMemory> Step<'_, S> {
     }
 
     fn jump_in(&self, made: RowItems) -> XRow
-        ensures { says result ≡ answer (given self.now.read self.now.input) made (takes_in self.now.place (λ v. returns (allows (S.cells self.now.memory.now)) self.now.place (set Width.Quad rax v (thread_of self.now.thread)))) }
+        ensures { says result
+            ≡ answer (given self.now.read self.now.input) made (takes_in self.now.place (λ v.
+            returns (allows (S.cells self.now.memory.now)) self.now.place (set Width.Quad rax v
+            (thread_of self.now.thread)))) }
     {
         let input = self.take_in(made);
         let after = self.thread.with_register(Width::Quad, RAX, input.value);
@@ -137,7 +170,11 @@ impl<S: StartMemory> Step<'_, S> {
     }
 
     fn jump_out(&self, made: RowItems) -> XRow
-        ensures { says result ≡ answer (given self.now.read self.now.input) made (puts_out self.now.place (register Width.Quad rdi (thread_of self.now.thread)) (returns (allows (S.cells self.now.memory.now)) self.now.place (thread_of self.now.thread))) }
+        ensures { says result
+            ≡ answer (given self.now.read self.now.input) made (puts_out self.now.place
+            (register Width.Quad rdi (thread_of self.now.thread))
+            (returns (allows (S.cells self.now.memory.now)) self.now.place
+            (thread_of self.now.thread))) }
     {
         let made = self.put_out(made, self.thread.register(Width::Quad, RDI));
         self.return_from(made, &self.thread)
@@ -147,7 +184,10 @@ impl<S: StartMemory> Step<'_, S> {
     #[tactic(auto, unfolding(crate::specs::Rows::table_row, crate::specs::Answers::answer, crate::specs::View::says))]
     pub(crate) fn jump_indirect(&self, flow: Flow, to: &Operand) -> XRow
         requires { IsAddress to.now }
-        ensures { says result ≡ answer (given self.now.read self.now.input) no_items (table_row (allows (S.cells self.now.memory.now)) self.now.place flow to.now (thread_of self.now.thread)) }
+        ensures { says result
+            ≡ answer (given self.now.read self.now.input) no_items
+            (table_row (allows (S.cells self.now.memory.now)) self.now.place flow to.now
+            (thread_of self.now.thread)) }
     {
         match flow {
             Flow::TableJump => {
@@ -162,7 +202,10 @@ impl<S: StartMemory> Step<'_, S> {
     /// Jcc.
     pub(crate) fn jump_on_condition(&self, when: Cond, displacement: u64) -> XRow
         requires { IsCondition when }
-        ensures { says result ≡ answer (given self.now.read self.now.input) no_items (leaves (if condition when.code (thread_of self.now.thread).flags then jumped displacement (thread_of self.now.thread) else (thread_of self.now.thread))) }
+        ensures { says result
+            ≡ answer (given self.now.read self.now.input) no_items (leaves (if condition
+            when.code (thread_of self.now.thread).flags then jumped displacement
+            (thread_of self.now.thread) else (thread_of self.now.thread))) }
     {
         if self.meets(when) {
             self.leave(nothing(), self.thread.jumped(displacement))

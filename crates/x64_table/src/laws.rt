@@ -1,4 +1,5 @@
 ghost use Rattle.x64_table.specs.Laws.{RowsAreOpen, RowsMakeSlots, RowsRun, RowsRunOnly, RowsWant};
+ghost use Rattle.x64_table.specs.Machine.{StepsAreOpen};
 
 /// What an instruction does is decided by the values that it reads and takes in.
 #[tactic(auto, using(crate::proofs::OpenLemmas::rows_open))]
@@ -28,4 +29,10 @@ pub fn rows_run_only()
 /// none is given, the row takes one, and no read is wanted.
 pub fn rows_want()
     ensures { RowsWant }
+{}
+
+/// What a thread's step does is decided by the values that it reads and takes in.
+#[tactic(auto, using(crate::proofs::MachineLemmas::steps_open))]
+pub fn steps_are_open()
+    ensures { StepsAreOpen }
 {}

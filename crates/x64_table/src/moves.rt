@@ -25,7 +25,11 @@ impl<S: StartMemory> Step<'_, S> {
     pub(crate) fn move_value(&self, w: Width, to: &Operand, from: &Operand) -> XRow
         requires to { IsSource w to.now }
         requires from { IsSource w from.now }
-        ensures { says result ≡ answer (given self.now.read self.now.input) no_items (fetches (allows (S.cells self.now.memory.now)) self.now.place w from.now (thread_of self.now.thread) (λ v. stores (allows (S.cells self.now.memory.now)) self.now.place w to.now (thread_of self.now.thread) v (thread_of self.now.thread))) }
+        ensures { says result
+            ≡ answer (given self.now.read self.now.input) no_items
+            (fetches (allows (S.cells self.now.memory.now)) self.now.place w from.now
+            (thread_of self.now.thread) (λ v. stores (allows (S.cells self.now.memory.now))
+            self.now.place w to.now (thread_of self.now.thread) v (thread_of self.now.thread))) }
     {
         let source = or_return!(self.fetch(nothing(), w, from));
         self.store(source.made, w, to, &self.thread, source.value, &self.thread)
@@ -36,7 +40,9 @@ impl<S: StartMemory> Step<'_, S> {
     pub(crate) fn load_address(&self, w: Width, to: &Operand, from: &Operand) -> XRow
         requires to { IsSource w to.now }
         requires from { IsSource w from.now }
-        ensures { says result ≡ answer (given self.now.read self.now.input) no_items (leaves (puts w to.now (address_of from.now (thread_of self.now.thread)) (thread_of self.now.thread))) }
+        ensures { says result
+            ≡ answer (given self.now.read self.now.input) no_items (leaves (puts w to.now
+            (address_of from.now (thread_of self.now.thread)) (thread_of self.now.thread))) }
     {
         let address = self.address_of(from);
         self.leave(nothing(), self.thread.with_operand(w, to, address))
@@ -52,7 +58,11 @@ impl<S: StartMemory> Step<'_, S> {
     ) -> XRow
         requires to { IsSource w to.now }
         requires from { IsSource from_width from.now }
-        ensures { says result ≡ answer (given self.now.read self.now.input) no_items (fetches (allows (S.cells self.now.memory.now)) self.now.place from_width from.now (thread_of self.now.thread) (λ a. leaves (puts w to.now a (thread_of self.now.thread)))) }
+        ensures { says result
+            ≡ answer (given self.now.read self.now.input) no_items
+            (fetches (allows (S.cells self.now.memory.now)) self.now.place from_width from.now
+            (thread_of self.now.thread) (λ a. leaves
+            (puts w to.now a (thread_of self.now.thread)))) }
     {
         let source = or_return!(self.fetch(nothing(), from_width, from));
         self.leave(source.made, self.thread.with_operand(w, to, source.value))
@@ -68,7 +78,11 @@ impl<S: StartMemory> Step<'_, S> {
     ) -> XRow
         requires to { IsSource w to.now }
         requires from { IsSource from_width from.now }
-        ensures { says result ≡ answer (given self.now.read self.now.input) no_items (fetches (allows (S.cells self.now.memory.now)) self.now.place from_width from.now (thread_of self.now.thread) (λ a. leaves (puts w to.now (sign_extend (bits w) (bits from_width) a) (thread_of self.now.thread)))) }
+        ensures { says result
+            ≡ answer (given self.now.read self.now.input) no_items
+            (fetches (allows (S.cells self.now.memory.now)) self.now.place from_width from.now
+            (thread_of self.now.thread) (λ a. leaves (puts w to.now
+            (sign_extend (bits w) (bits from_width) a) (thread_of self.now.thread)))) }
     {
         let source = or_return!(self.fetch(nothing(), from_width, from));
         let value = extend(w, from_width, source.value);
@@ -87,7 +101,11 @@ impl<S: StartMemory> Step<'_, S> {
     pub(crate) fn set_condition(&self, when: Cond, to: &Operand) -> XRow
         requires when { IsCondition when }
         requires to { IsSource Width.Byte to.now }
-        ensures { says result ≡ answer (given self.now.read self.now.input) no_items (stores (allows (S.cells self.now.memory.now)) self.now.place Width.Byte to.now (thread_of self.now.thread) (bit (condition when.code (thread_of self.now.thread).flags)) (thread_of self.now.thread)) }
+        ensures { says result
+            ≡ answer (given self.now.read self.now.input) no_items
+            (stores (allows (S.cells self.now.memory.now)) self.now.place Width.Byte to.now
+            (thread_of self.now.thread) (bit (condition when.code
+            (thread_of self.now.thread).flags)) (thread_of self.now.thread)) }
     {
         let value = u64::from(self.meets(when));
         self.store(
@@ -111,7 +129,12 @@ impl<S: StartMemory> Step<'_, S> {
         requires when { IsCondition when }
         requires to { IsSource w to.now }
         requires from { IsSource w from.now }
-        ensures { says result ≡ answer (given self.now.read self.now.input) no_items (fetches (allows (S.cells self.now.memory.now)) self.now.place w from.now (thread_of self.now.thread) (λ v. leaves (puts w to.now (if condition when.code (thread_of self.now.thread).flags then v else holds w to.now (thread_of self.now.thread)) (thread_of self.now.thread)))) }
+        ensures { says result
+            ≡ answer (given self.now.read self.now.input) no_items
+            (fetches (allows (S.cells self.now.memory.now)) self.now.place w from.now
+            (thread_of self.now.thread) (λ v. leaves (puts w to.now (if condition when.code
+            (thread_of self.now.thread).flags then v else holds w to.now
+            (thread_of self.now.thread)) (thread_of self.now.thread)))) }
     {
         let source = or_return!(self.fetch(nothing(), w, from));
         let value = if self.meets(when) {
@@ -124,7 +147,10 @@ impl<S: StartMemory> Step<'_, S> {
 
     /// CBW, CWDE and CDQE.
     pub(crate) fn widen(&self, w: Width) -> XRow
-        ensures { says result ≡ answer (given self.now.read self.now.input) no_items (leaves (set w rax (sign_extend (bits w) (bits (half w)) (register (half w) rax (thread_of self.now.thread))) (thread_of self.now.thread))) }
+        ensures { says result
+            ≡ answer (given self.now.read self.now.input) no_items (leaves (set w rax
+            (sign_extend (bits w) (bits (half w)) (register (half w) rax
+            (thread_of self.now.thread))) (thread_of self.now.thread))) }
     {
         let value = extend(w, half(w), self.thread.register(half(w), RAX));
         self.leave(nothing(), self.thread.with_register(w, RAX, value))
@@ -132,7 +158,10 @@ impl<S: StartMemory> Step<'_, S> {
 
     /// CWD, CDQ and CQO.
     pub(crate) fn fill_sign(&self, w: Width) -> XRow
-        ensures { says result ≡ answer (given self.now.read self.now.input) no_items (leaves (set w (upper w) (filled (bits w) (register w rax (thread_of self.now.thread))) (thread_of self.now.thread))) }
+        ensures { says result
+            ≡ answer (given self.now.read self.now.input) no_items (leaves (set w (upper w)
+            (filled (bits w) (register w rax (thread_of self.now.thread)))
+            (thread_of self.now.thread))) }
     {
         let value = fill(w, self.thread.register(w, RAX));
         self.leave(nothing(), self.thread.with_register(w, upper(w), value))

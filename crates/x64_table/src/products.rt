@@ -21,7 +21,10 @@ impl<S: StartMemory> Step<'_, S> {
     #[tactic(auto, unfolding(crate::specs::Rows::mul_row))]
     pub(crate) fn multiply(&self, signed: bool, w: Width, from: &Operand) -> XRow
         requires { IsSource w from.now }
-        ensures { says result ≡ answer (given self.now.read self.now.input) no_items (mul_row (allows (S.cells self.now.memory.now)) self.now.place signed w from.now (thread_of self.now.thread)) }
+        ensures { says result
+            ≡ answer (given self.now.read self.now.input) no_items
+            (mul_row (allows (S.cells self.now.memory.now)) self.now.place signed w from.now
+            (thread_of self.now.thread)) }
     {
         let factor = or_return!(self.fetch(nothing(), w, from));
         let product = multiply(signed, w, self.thread.register(w, RAX), factor.value);
@@ -36,7 +39,10 @@ impl<S: StartMemory> Step<'_, S> {
     #[tactic(auto, unfolding(crate::specs::Rows::div_row))]
     pub(crate) fn divide(&self, signed: bool, w: Width, from: &Operand) -> XRow
         requires { IsSource w from.now }
-        ensures { says result ≡ answer (given self.now.read self.now.input) no_items (div_row (allows (S.cells self.now.memory.now)) self.now.place signed w from.now (thread_of self.now.thread)) }
+        ensures { says result
+            ≡ answer (given self.now.read self.now.input) no_items
+            (div_row (allows (S.cells self.now.memory.now)) self.now.place signed w from.now
+            (thread_of self.now.thread)) }
     {
         let divisor = or_return!(self.fetch(nothing(), w, from));
         let high = self.thread.register(w, upper(w));
@@ -64,7 +70,10 @@ impl<S: StartMemory> Step<'_, S> {
         requires to { IsSource w to.now }
         requires first { IsSource w first.now }
         requires second { IsSource w second.now }
-        ensures { says result ≡ answer (given self.now.read self.now.input) no_items (imul_row (allows (S.cells self.now.memory.now)) self.now.place w to.now first.now second.now (thread_of self.now.thread)) }
+        ensures { says result
+            ≡ answer (given self.now.read self.now.input) no_items
+            (imul_row (allows (S.cells self.now.memory.now)) self.now.place w to.now first.now
+            second.now (thread_of self.now.thread)) }
     {
         let factor = or_return!(self.fetch(nothing(), w, first));
         self.multiply_with(factor, w, to, second)
@@ -74,7 +83,12 @@ impl<S: StartMemory> Step<'_, S> {
         requires to { IsSource w to.now }
         requires first { first.value < 2 ^ bits w }
         requires second { IsSource w second.now }
-        ensures { says result ≡ answer (given self.now.read self.now.input) first.made (fetches (allows (S.cells self.now.memory.now)) self.now.place w second.now (thread_of self.now.thread) (λ b. leaves (with_flags (product_flags (product true (bits w) first.value b) (thread_of self.now.thread).flags) (puts w to.now (product true (bits w) first.value b).low (thread_of self.now.thread))))) }
+        ensures { says result
+            ≡ answer (given self.now.read self.now.input) first.made
+            (fetches (allows (S.cells self.now.memory.now)) self.now.place w second.now
+            (thread_of self.now.thread) (λ b. leaves (with_flags (product_flags
+            (product true (bits w) first.value b) (thread_of self.now.thread).flags) (puts w
+            to.now (product true (bits w) first.value b).low (thread_of self.now.thread))))) }
     {
         let factor = or_return!(self.fetch(first.made, w, second));
         let product = multiply(true, w, first.value, factor.value);
@@ -90,7 +104,10 @@ impl<S: StartMemory> Step<'_, S> {
     pub(crate) fn shift(&self, op: ShiftOp, w: Width, to: &Operand, by: &Operand) -> XRow
         requires to { IsSource w to.now }
         requires by { IsSource Width.Byte by.now }
-        ensures { says result ≡ answer (given self.now.read self.now.input) no_items (shift_row (allows (S.cells self.now.memory.now)) self.now.place op w to.now by.now (thread_of self.now.thread)) }
+        ensures { says result
+            ≡ answer (given self.now.read self.now.input) no_items
+            (shift_row (allows (S.cells self.now.memory.now)) self.now.place op w to.now by.now
+            (thread_of self.now.thread)) }
     {
         let count = or_return!(self.fetch(nothing(), Width::Byte, by));
         self.shift_by(count.made, op, w, to, count.value as u8)
@@ -98,7 +115,11 @@ impl<S: StartMemory> Step<'_, S> {
 
     fn shift_by(&self, made: RowItems, op: ShiftOp, w: Width, to: &Operand, count: u8) -> XRow
         requires { IsSource w to.now }
-        ensures { says result ≡ answer (given self.now.read self.now.input) made (becomes (allows (S.cells self.now.memory.now)) self.now.place false w to.now (thread_of self.now.thread) (λ a. turn_outcome op (bits w) a count (thread_of self.now.thread).flags)) }
+        ensures { says result
+            ≡ answer (given self.now.read self.now.input) made
+            (becomes (allows (S.cells self.now.memory.now)) self.now.place false w to.now
+            (thread_of self.now.thread) (λ a. turn_outcome op (bits w) a count
+            (thread_of self.now.thread).flags)) }
     {
         let old = or_return!(self.begin_change(made, false, w, to));
         let outcome = turn(op, w, old.value, count, self.flags());

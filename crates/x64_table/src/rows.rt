@@ -48,7 +48,10 @@ pub fn row<S: StartMemory>(
 /// The state with the address after an instruction.
 #[tactic(auto, unfolding(crate::specs::View::thread_of))]
 fn behind(state: &X64State, length: u8) -> X64State
-    ensures { thread_of result ≡ record (thread_of state.now) { at = ((thread_of state.now).at + length) % 2 ^ 64 } }
+    ensures { thread_of result ≡ record (thread_of state.now) {
+      at =
+          ((thread_of state.now).at + length) % 2 ^ 64;
+    } }
 {
     X64State {
         at: state.at.wrapping_add(u64::from(length)),

@@ -142,7 +142,8 @@ impl<S: StartMemory> Step<'_, S> {
     /// The row goes on to the next instruction.
     #[tactic(auto, unfolding(crate::specs::Answers::answer, crate::specs::View::says))]
     pub(crate) fn leave(&self, made: RowItems, after: X64State) -> XRow
-        ensures { says result ≡ answer (given self.now.read self.now.input) made (leaves (thread_of after)) }
+        ensures { says result
+            ≡ answer (given self.now.read self.now.input) made (leaves (thread_of after)) }
     {
         XRow::Done(made, Next::State(after))
     }
@@ -251,7 +252,8 @@ impl<S: StartMemory> Step<'_, S> {
 
     /// The write of a locked pair.
     pub(crate) fn unlock(&self, made: RowItems, w: Width, address: u64, value: u64) -> RowItems
-        ensures { result ≡ with_items made (locked_write self.now.place address (bytes w) (Some value)) }
+        ensures { result ≡ with_items made (locked_write self.now.place address (bytes w)
+            (Some value)) }
     {
         let access = self.access(AccessKind::Write, true, w, address, low_bits(w, value));
         RowItems {
@@ -297,7 +299,10 @@ impl<S: StartMemory> Step<'_, S> {
         after: &X64State,
     ) -> XRow
         requires { IsSource w operand.now }
-        ensures { says result ≡ answer (given self.now.read self.now.input) made (stores (allows (S.cells self.now.memory.now)) self.now.place w operand.now (thread_of state.now) value (thread_of after.now)) }
+        ensures { says result
+            ≡ answer (given self.now.read self.now.input) made
+            (stores (allows (S.cells self.now.memory.now)) self.now.place w operand.now
+            (thread_of state.now) value (thread_of after.now)) }
     {
         match operand {
             Operand::Reg(register) => self.leave(made, after.with_register(w, *register, value)),
@@ -345,7 +350,10 @@ impl<S: StartMemory> Step<'_, S> {
         after: &X64State,
     ) -> XRow
         requires { IsSource w to.now }
-        ensures { says result ≡ ends_change (allows (S.cells self.now.memory.now)) self.now.place (given self.now.read self.now.input) made locked w to.now (thread_of self.now.thread) value (thread_of after.now) }
+        ensures { says result
+            ≡ ends_change (allows (S.cells self.now.memory.now)) self.now.place
+            (given self.now.read self.now.input) made locked w to.now
+            (thread_of self.now.thread) value (thread_of after.now) }
     {
         match to {
             Operand::Mem(memory) if locked => {
@@ -402,7 +410,9 @@ impl<S: StartMemory> Step<'_, S> {
     /// MFENCE.
     #[tactic(auto, unfolding(crate::specs::Answers::answer, crate::specs::View::says))]
     pub(crate) fn fence(&self) -> XRow
-        ensures { says result ≡ answer (given self.now.read self.now.input) no_items (fences_at fence.Mfence self.now.place (leaves (thread_of self.now.thread))) }
+        ensures { says result
+            ≡ answer (given self.now.read self.now.input) no_items (fences_at fence.Mfence
+            self.now.place (leaves (thread_of self.now.thread))) }
     {
         let made = RowItems {
             fence: true,

@@ -1,4 +1,4 @@
-use Rattle.std.proofs.Common.{◌≡◌, ap, ◌∙◌, ℕ, sym, List, rules, ◌<◌, length, refl}
+use Rattle.std.proofs.Common.{ap, ◌∙◌, rules, ◌<◌, length}
 use Rattle.std.specs.Prelude.{slice_index}
 use Rattle.behavior.specs.Acts.{Bank, put}
 use Rattle.x64_table.specs.State.{Thread, set, merged}

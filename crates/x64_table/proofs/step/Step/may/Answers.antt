@@ -1,6 +1,5 @@
-use Rattle.std.proofs.Common.{◌≡◌, ◌∙◌, ap}
+use Rattle.std.proofs.Common.{◌∙◌, ap}
 use Rattle.ev_graph.specs.Memory.{allows}
-use Rattle.x64_table.specs.State.{bytes}
 use Rattle.x64_table.proofs.PermissionLemmas.{answered_by_test}
 use Rattle.x64_table.proofs.step.Step.may.Goals as goal
 
