@@ -1,8 +1,8 @@
 -- Which accesses a window allows.
-use Rattle.std.proofs.Common.{◌≡◌, ℕ, zero, suc, ◌+◌, ◌<◌, ◌≤◌, ◌&&◌, ◌||◌, not, Bool, true, false, Some, None, arith, refl, sym, ◌∙◌, ap, subst}
+use Rattle.std.proofs.Common.{◌≡◌, ℕ, zero, suc, ◌+◌, ◌<◌, ◌≤◌, ◌&&◌, ◌||◌, not, Bool, true, false, Some, None, arith, refl, ap}
 use Rattle.std.specs.Prelude.{if◌then◌else◌, nat_le, nat_lt}
 use Rattle.std.proofs.lemmas.Bool.Decides.{nat_tests}
-use Rattle.ev_graph.specs.Memory.{Allows, Cell, permits}
+use Rattle.ev_graph.specs.Memory.{Allows, permits}
 use Rattle.row_lines.specs.Window.{window_cell}
 
 -- an access is inside
@@ -24,6 +24,7 @@ only_there writable write n here = in_range (by (nat_le 0x20000000 n && nat_lt n
     by true write here = refl
     by false true here = absurd cc
     by false false here = absurd cc
+
     in_range : (nat_le 0x20000000 n && nat_lt n 0x20000040) ≡ true → (0x20000000 ≤ n) × (n < 0x20000040)
     in_range test = (grind (arith, nat_tests), grind (arith, nat_tests))
 

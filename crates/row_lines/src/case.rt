@@ -1,9 +1,8 @@
+use crate::window::Window;
 use alu_width::Flags;
 use std::alloc::{AllocError, Global};
 use std::str::SplitAsciiWhitespace;
 use x64_table::X64State;
-
-use crate::window::Window;
 
 /// Where the instruction of a case stands.
 const PLACE: u64 = 0x3000_8000;

@@ -9,10 +9,9 @@ mod step;
 mod tests;
 mod window;
 
+use case::Case;
 use std::io;
 use std::io::Read;
-
-use case::Case;
 use step::write_outcome;
 
 /// Prints a line for each line of standard input.

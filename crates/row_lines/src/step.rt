@@ -1,14 +1,13 @@
 ghost use Rattle.x64_syntax.specs.Formed.{IsFormed};
 
+use crate::case::{Case, bits_of};
+use crate::window::{Permission, Window};
 use ev_graph::{End, TrapKind};
 use std::alloc::AllocError;
 use std::fmt::Write;
 use x64_decode::decode_one;
 use x64_syntax::{Flow, Instr};
 use x64_table::{Next, X64State, XRow, row};
-
-use crate::case::{Case, bits_of};
-use crate::window::{Permission, Window};
 
 /// The cases' memory may be read and written.
 const ALL: Permission = Permission { writable: true };
