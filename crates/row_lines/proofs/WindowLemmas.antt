@@ -1,8 +1,8 @@
 -- Which accesses a window allows.
-use Rattle.std.proofs.Common.{◌≡◌, ℕ, zero, suc, ◌+◌, ◌<◌, ◌≤◌, ◌&&◌, ◌||◌, not, Bool, true, false, Some, None, arith, refl, sym, ◌∙◌, ap, subst}
+use Rattle.std.proofs.Common.{◌≡◌, ℕ, zero, suc, ◌+◌, ◌<◌, ◌≤◌, ◌&&◌, ◌||◌, not, Bool, true, false, Some, None, arith, refl, ap}
 use Rattle.std.specs.Prelude.{if◌then◌else◌, nat_le, nat_lt}
 use Rattle.std.proofs.lemmas.Bool.Decides.{nat_tests}
-use Rattle.ev_graph.specs.Memory.{Allows, Cell, permits}
+use Rattle.ev_graph.specs.Memory.{Allows, permits}
 use Rattle.row_lines.specs.Window.{window_cell}
 
 -- an access is inside
