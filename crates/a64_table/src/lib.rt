@@ -12,6 +12,7 @@ mod tests;
 mod values;
 mod words;
 
+pub use ev_graph::{RowItems, Wanted};
 pub use laws::{answers_are_paths, rows_are_open};
 pub use rows::{ANext, ARow, FenceChoice, row};
 pub use state::{A64State, Done, Nzcv};
