@@ -6,7 +6,6 @@ use Rattle.std.proofs.lemmas.Option.{slice_get_within}
 use Rattle.ev_graph.specs.declared.events.Access.{Access}
 use Rattle.ev_graph.specs.declared.events.End.{End}
 use Rattle.ev_graph.specs.declared.events.EventId.{EventId}
-use Rattle.ev_graph.specs.declared.events.FenceItem.{FenceItem}
 use Rattle.ev_graph.specs.declared.events.FenceKind.TheVariants.{DmbFull, Mfence}
 use Rattle.ev_graph.specs.declared.events.Item.{Item}
 use Rattle.ev_graph.specs.declared.events.Item.TheVariants as item
@@ -37,7 +36,7 @@ use Rattle.x64_syntax.specs.declared.placed.Placed.{Placed}
 use Rattle.x64_table.specs.State.{Thread}
 use Rattle.x64_table.specs.Machine.{straight_code}
 use Rattle.a64_table.proofs.BarrierLemmas.{IsBarred, a64_barred}
-use Rattle.line_read.specs.Line.{IsLine, IsStraight, IsTranslated, placed_in}
+use Rattle.line_read.specs.Line.{IsLine, IsTranslated, placed_in}
 use Rattle.line_read.proofs.CallerLemmas.{one_line}
 use Rattle.straight_line.specs.Guarded.{Guarded}
 use Rattle.straight_line.proofs.PlainRows.{IsPlain}

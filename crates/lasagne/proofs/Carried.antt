@@ -1,10 +1,10 @@
 -- The file of an image of lines carries the input whose lines they are.
-use Rattle.std.proofs.Common.{◌≡◌, ℕ, ◌+◌, ◌*◌, ◌^◌, ◌<◌, ◌≤◌, List, [], ◌∷◌, ◌++◌, length, map, slice_get, get_or, Some, arith, sym, ◌∙◌, ap, refl, subst}
+use Rattle.std.proofs.Common.{◌≡◌, ℕ, ◌+◌, ◌*◌, ◌^◌, ◌<◌, ◌≤◌, List, [], ◌∷◌, ◌++◌, length, map, slice_get, get_or, Some, arith, sym, ◌∙◌, ap, subst}
 use Rattle.std.specs.List.{AllByRecursion}
 use Rattle.std.proofs.lemmas.List.{append-nil}
 use Rattle.std.proofs.lemmas.Option.{slice_get_within, slice_get-get_or}
 use Rattle.ev_graph.specs.declared.execution.Stack.{Stack}
-use Rattle.ev_graph.specs.Memory.{Part, Fits}
+use Rattle.ev_graph.specs.Memory.{Fits}
 use Rattle.behavior.specs.Kept.{Backward, BackwardBy, Forward}
 use Rattle.behavior.specs.Seen.{full}
 use Rattle.behavior.proofs.SeenLemmas.{full-to_trace}
@@ -13,12 +13,12 @@ use Rattle.elf_read.specs.declared.elf.Elf.{Elf}
 use Rattle.elf_read.specs.Elf.{IsProgram, parts_of}
 use Rattle.elf_read.specs.ElfFile.{segments_of, threads_of, address_of, input_name, output_name}
 use Rattle.elf_write.specs.declared.image.Image.{Image}
-use Rattle.elf_write.specs.Image.{image_part, code_part, kept, IsCodeAddress, IsImage}
+use Rattle.elf_write.specs.Image.{code_part, kept, IsCodeAddress, IsImage}
 use Rattle.elf_write.specs.ImageFile.{image_file}
 use Rattle.elf_write.specs.Written.{IsFileOf}
 use Rattle.elf_write.proofs.CallerLemmas.{code_address_le, fits_kept}
 use Rattle.line_read.specs.declared.line.Line.{Line}
-use Rattle.line_read.specs.Line.{Code, code_of, IsLine, IsTranslated, IsUnbuilt, placed_in}
+use Rattle.line_read.specs.Line.{code_of, IsLine, IsTranslated, IsUnbuilt, placed_in}
 use Rattle.line_read.specs.Lines.{IsRead, IsEntry, HasLine, AreDistinct, AreAllDistinct}
 use Rattle.line_read.proofs.CallerLemmas.{line_straight}
 use Rattle.lasagne.specs.declared.plan.Summary.{Summary}

@@ -1,5 +1,5 @@
 -- A full fence of the input's run is one of the image's, between the same accesses.
-use Rattle.std.proofs.Common.{◌≡◌, ℕ, zero, suc, ◌<◌, ◌≤◌, List, [], ◌∷◌, ◌++◌, slice_get, Some, None, arith, sym, ◌∙◌, ap, refl, subst}
+use Rattle.std.proofs.Common.{◌≡◌, ℕ, zero, suc, List, [], ◌∷◌, ◌++◌, slice_get, Some, None, arith, sym, ◌∙◌, ap, refl, subst}
 use Rattle.std.specs.List.{AllByRecursion}
 use Rattle.ev_graph.specs.declared.events.Access.{Access}
 use Rattle.ev_graph.specs.declared.events.FenceItem.{FenceItem}

@@ -1,9 +1,8 @@
 -- Lines that are laid one behind the other, and the threads that begin at them.
-use Rattle.std.proofs.Common.{◌≡◌, ℕ, zero, suc, ◌+◌, ◌*◌, ◌^◌, ◌<◌, ◌≤◌, List, [], ◌∷◌, ◌++◌, length, map, slice_get, get_or, Some, None, arith, refl, sym, ap, ◌∙◌, subst, inl, inr, append_assoc, length-append}
+use Rattle.std.proofs.Common.{◌≡◌, ℕ, zero, suc, ◌+◌, ◌*◌, ◌^◌, ◌<◌, List, [], ◌∷◌, ◌++◌, length, slice_get, get_or, Some, None, arith, refl, sym, ap, ◌∙◌, subst, inl, inr, append_assoc, length-append}
 use Rattle.std.specs.Prelude.{◌⊎◌}
 use Rattle.std.specs.List.{AllByRecursion}
 use Rattle.std.proofs.lemmas.List.{append-nil}
-use Rattle.ev_graph.specs.Memory.{Part}
 use Rattle.x64_syntax.specs.declared.placed.Placed.{Placed}
 use Rattle.line_read.specs.declared.line.Line.{Line}
 use Rattle.line_read.specs.Line.{Code, IsBuiltLine}

@@ -1,5 +1,5 @@
 -- Which files are translated so far, and for which fault a file is refused.
-use Rattle.std.specs.Prelude.{◌≡◌, ◌≤◌, ℕ, List}
+use Rattle.std.specs.Prelude.{ℕ, List}
 use Rattle.elf_read.specs.ElfFile.{segments_of, threads_of, address_of, input_name, output_name}
 use Rattle.elf_read.specs.FileFaults.{Holds}
 use Rattle.elf_read.specs.FirstFault.{Clear, IsFirst}

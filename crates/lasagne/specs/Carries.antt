@@ -1,9 +1,9 @@
 -- What it means that the bytes of an image carry those of an input.
-use Rattle.std.specs.Prelude.{◌≡◌, ◌≤◌, ◌<◌, ◌^◌, ℕ, ◌+◌, ◌%◌, ◌==◌, Bool, false, List, [], ◌∷◌, ◌++◌, length, bit_and, max, if◌then◌else◌}
+use Rattle.std.specs.Prelude.{◌≡◌, ◌<◌, ◌^◌, ℕ, Bool, false, List, [], ◌∷◌, ◌++◌, length}
 use Rattle.std.specs.List.{AllByRecursion}
 use Rattle.ev_graph.specs.declared.execution.Execution.{Execution}
 use Rattle.ev_graph.specs.declared.execution.Stack.{Stack}
-use Rattle.ev_graph.specs.Memory.{Part, cells_of, Fits}
+use Rattle.ev_graph.specs.Memory.{cells_of, Fits}
 use Rattle.ev_graph.specs.WellFormed.{WellFormed}
 use Rattle.x64_syntax.specs.declared.slots.Slot.{Slot}
 use Rattle.order_models.specs.Orders.{Arm}

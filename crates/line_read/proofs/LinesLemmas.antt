@@ -1,5 +1,5 @@
 -- The lines of the threads that have been looked at so far.
-use Rattle.std.proofs.Common.{◌≡◌, ◌≢◌, ℕ, zero, suc, ◌+◌, ◌<◌, ◌≤◌, max, Bool, true, false, Err, Vec, Global, List, [], ◌∷◌, ◌++◌, length, slice_get, get_or, Some, arith, refl, sym, ap, ◌∙◌, subst, inl, inr, length-append}
+use Rattle.std.proofs.Common.{◌≡◌, ◌≢◌, ℕ, zero, suc, ◌+◌, ◌<◌, ◌≤◌, max, Bool, true, false, Err, Vec, Global, List, [], ◌∷◌, ◌++◌, length, slice_get, get_or, Some, arith, refl, sym, ◌∙◌, subst, inl, inr, length-append}
 use Rattle.std.specs.Prelude.{◌⊎◌, Result}
 use Rattle.std.specs.Bool.{IsTrue}
 use Rattle.line_read.specs.declared.fault.LineFault.{LineFault}
@@ -10,7 +10,7 @@ use Rattle.std.proofs.lemmas.Option.{slice_get_within}
 use Rattle.x64_syntax.specs.declared.placed.Placed.{Placed}
 use Rattle.elf_read.specs.Elf.{IsSegment}
 use Rattle.line_read.specs.declared.line.Line.{Line}
-use Rattle.line_read.specs.Line.{Code, IsLine, IsBuiltLine, IsUnbuiltAt, Covers, Meet, MeetsEarlier, IsBuiltThread, IsUnbuiltThread, IsUnbuilt}
+use Rattle.line_read.specs.Line.{Code, IsLine, IsBuiltLine, IsUnbuiltAt, Meet, MeetsEarlier, IsBuiltThread, IsUnbuiltThread, IsUnbuilt}
 use Rattle.line_read.specs.Lines.{end_of, IsRead, IsStraightLine, AreDistinct, AreAllDistinct, HasLine, IsEntry, MeetsAny}
 use Rattle.line_read.proofs.LineLemmas.{line_once, built_or_not, built_straight, covers_range, range_covers, line_some}
 

@@ -1,5 +1,5 @@
 -- The instructions that are translated so far, and those that end a line.
-use Rattle.std.specs.Prelude.{◌≡◌, ℕ, Bool, true, false, not, ◌||◌, Option, Some, None, is_some, if◌then◌else◌, pos}
+use Rattle.std.specs.Prelude.{ℕ, Bool, true, false, not, ◌||◌, Option, Some, None, is_some, if◌then◌else◌, pos}
 use Rattle.std.specs.Option.{option_map}
 use Rattle.std.specs.Ordering.{int_eq}
 use Rattle.x64_syntax.specs.declared.instr.Instr.{Instr}

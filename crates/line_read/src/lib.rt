@@ -8,6 +8,8 @@ mod instruction;
 mod line;
 mod lines;
 mod plain;
+#[cfg(test)]
+mod tests;
 mod window;
 
 pub use fault::LineFault;

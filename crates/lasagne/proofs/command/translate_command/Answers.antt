@@ -1,5 +1,5 @@
 use Rattle.std.proofs.Common.{◌∙◌, refl, inl, inr}
-use Rattle.lasagne.proofs.Endings.{longer_refused, fault_refused, refused, of_image, rose_later, put_image, torn_image, took_line, took_part}
+use Rattle.lasagne.proofs.Endings.{longer_refused, refused, of_image, rose_later, put_image, torn_image, took_line, took_part}
 use Rattle.lasagne.proofs.command.translate_command.Goals as goal
 
 pub returns-in-Err-TooLong : goal.returns-in-Err-TooLong

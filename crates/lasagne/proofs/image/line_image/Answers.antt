@@ -1,11 +1,9 @@
-use Rattle.std.proofs.Common.{◌≡◌, ◌≤◌, ◌<◌, ◌^◌, ◌+◌, ◌*◌, ◌++◌, [], ℕ, List, length, map, slice_get, Some, arith, sym, subst, ap, ◌∙◌}
+use Rattle.std.proofs.Common.{◌≡◌, ◌^◌, length, map, slice_get, Some, arith, sym, subst, ap, ◌∙◌}
 use Rattle.std.specs.List.{AllByRecursion}
 use Rattle.elf_read.specs.Elf.{parts_of, segment_part}
-use Rattle.elf_write.specs.declared.image.ImageSegment.{ImageSegment}
 use Rattle.elf_write.specs.Image.{image_part, kept, EndBefore, IsCodeAddress}
 use Rattle.elf_write.proofs.CallerLemmas.{kept_end_before, image_of_program}
-use Rattle.line_read.specs.Lines.{HasLine}
-use Rattle.lasagne.specs.Laid.{BeginsWithin, HasLaid, AreLaid, BeginLaid}
+use Rattle.lasagne.specs.Laid.{BeginsWithin, HasLaid, BeginLaid}
 use Rattle.lasagne.proofs.LaidLines.{all_wider, entries_count, laid_of}
 use Rattle.lasagne.proofs.image.line_image.Goals as goal
 

@@ -1,7 +1,7 @@
-use Rattle.std.proofs.Common.{◌≡◌, ◌+◌, ◌*◌, ◌++◌, [], ◌∷◌, take, get_or, sym, subst}
+use Rattle.std.proofs.Common.{take, get_or, sym, subst}
 use Rattle.std.proofs.lemmas.List.{take_more}
 use Rattle.lasagne.specs.declared.laid.LaidLine.{LaidLine}
-use Rattle.lasagne.proofs.LaidLines.{Looked, looked_here, looked_on, looked_found}
+use Rattle.lasagne.proofs.LaidLines.{Looked, looked_here, looked_on}
 use Rattle.lasagne.proofs.laid.laid_at.Goals as goal
 use Rattle.lasagne.proofs.laid.laid_at.Goals.{then-line-first, else-line-first}
 

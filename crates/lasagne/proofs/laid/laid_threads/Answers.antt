@@ -1,4 +1,4 @@
-use Rattle.std.proofs.Common.{◌≡◌, ◌+◌, ◌++◌, [], ◌∷◌, take, get_or, rules, sym, subst, ap, ◌∙◌}
+use Rattle.std.proofs.Common.{◌≡◌, ◌++◌, [], ◌∷◌, take, get_or, rules, sym, subst}
 use Rattle.std.proofs.lemmas.List.{take_more}
 use Rattle.lasagne.specs.Laid.{BeginLaid}
 use Rattle.lasagne.proofs.LaidLines.{begin_more}

@@ -1,14 +1,13 @@
-use Rattle.std.proofs.Common.{◌≡◌, ℕ, ◌≤◌, List, [], ◌∷◌, length, map, slice_get, Some, arith, sym, ◌∙◌, ap, subst}
+use Rattle.std.proofs.Common.{◌≡◌, ℕ, List, length, map, sym, ◌∙◌, ap, subst}
 use Rattle.std.specs.List.{AllByRecursion}
 use Rattle.elf_read.specs.Elf.{parts_of}
 use Rattle.elf_write.specs.Written.{IsFileOf}
-use Rattle.line_read.specs.declared.line.Line.{Line}
 use Rattle.line_read.specs.Line.{code_of}
-use Rattle.line_read.specs.Lines.{IsRead, IsEntry, HasLine, AreAllDistinct, IsStraightLine}
+use Rattle.line_read.specs.Lines.{IsRead}
 use Rattle.line_read.proofs.CallerLemmas.{line_short}
 use Rattle.lasagne.specs.Counting.{nothing}
 use Rattle.lasagne.specs.Laid.{IsShort, IsLineImage}
-use Rattle.lasagne.specs.Lines.{block_of, HasSummary}
+use Rattle.lasagne.specs.Lines.{block_of}
 use Rattle.lasagne.specs.Plan.{summary_of}
 use Rattle.lasagne.proofs.LaidLines.{all_wider}
 use Rattle.lasagne.proofs.Carried.{IsReadOf, AreLinesOf, line_image_carries, lines_summarized}

@@ -1,4 +1,4 @@
-use Rattle.std.proofs.Common.{◌∙◌, Ok, Err, ap, subst, take}
+use Rattle.std.proofs.Common.{◌∙◌, subst, take}
 use Rattle.elf_read.specs.Elf.{parts_of}
 use Rattle.x64_decode.specs.Spelling.{Answers}
 use Rattle.line_read.proofs.CodeLemmas.{decoded_stands, refused_stands}

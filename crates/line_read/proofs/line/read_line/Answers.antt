@@ -1,4 +1,4 @@
-use Rattle.std.proofs.Common.{◌≡◌, ◌≤◌, ◌+◌, ◌^◌, ◌++◌, [], ◌∷◌, suc, length, arith, rules, sym, ap, ◌∙◌, subst, length-append}
+use Rattle.std.proofs.Common.{◌≡◌, ◌+◌, ◌++◌, [], ◌∷◌, length, arith, rules, sym, ap, ◌∙◌, subst, length-append}
 use Rattle.elf_read.specs.Elf.{parts_of}
 use Rattle.line_read.specs.Line.{Leads, IsLine, AllMayStand, MayStand, code_of}
 use Rattle.line_read.specs.Lines.{end_of}

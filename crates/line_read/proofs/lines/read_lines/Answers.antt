@@ -1,9 +1,8 @@
-use Rattle.std.proofs.Common.{◌≡◌, ◌≤◌, ◌<◌, ◌+◌, ◌++◌, [], ◌∷◌, ℕ, false, length, slice_get, get_or, Some, Err, arith, rules, refl, sym, ap, ◌∙◌, subst, inl}
+use Rattle.std.proofs.Common.{◌≡◌, ◌≤◌, ◌+◌, ◌++◌, [], ◌∷◌, length, slice_get, get_or, Some, Err, arith, rules, refl, sym, ap, ◌∙◌, subst}
 use Rattle.std.proofs.lemmas.Option.{slice_get_within}
 use Rattle.std.proofs.lemmas.Result.{err_from_is_err_and}
 use Rattle.line_read.specs.Line.{IsUnbuilt, code_of}
 use Rattle.line_read.specs.Lines.{HasLine, MeetsAny, IsRead, end_of}
-use Rattle.line_read.specs.declared.fault.LineFault.TheVariants.{UnbuiltCode}
 use Rattle.line_read.proofs.LinesLemmas.{AreRead, EndsThere, again_read, next_read, all_built, unbuilt_line, unbuilt_meeting, all_straight, all_entries, entry_here, same_unbuilt, passed_on, untrue}
 use Rattle.line_read.proofs.lines.read_lines.Goals as goal
 
