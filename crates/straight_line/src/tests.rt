@@ -1,63 +1,40 @@
+ghost use Rattle.std.specs.Prelude.{◌≤◌, length, IfOk};
+ghost use Rattle.gen_input.specs.BuiltFile.{IsShort};
+
 use crate::translate_line;
+use elf_format::Symbol;
+use elf_read::read_elf;
+use ev_graph::List;
+use gen_input::build;
+use line_read::read_lines;
+use std::alloc::Global;
 use std::test::Fail;
-use x64_syntax::{Flow, Instr, Mem, Operand, Placed, Reg, Width};
 
-fn register(number: u8) -> Operand {
-    Operand::Reg(Reg {
-        number,
-        high: false,
-    })
+/// A thread's symbol.
+fn thread(alloc: Global, name: &[u8], address: u64) -> Result<Symbol, Fail>
+    requires { length name.now ≤ 32 }
+    ensures { IfOk result IsShort }
+{
+    let name = List::of(Vec::from_slice(alloc, name)?);
+    Ok(Symbol { name, address })
 }
 
-/// Memory at the address in a register.
-fn at(base: u8) -> Operand {
-    Operand::Mem(Mem {
-        base: Some(base),
-        index: None,
-        scale: 1,
-        offset: 0,
-        rip: false,
-    })
-}
-
-fn placed(address: u64, length: u8, instr: Instr) -> Placed {
-    Placed {
-        address,
-        length,
-        instr,
-        flow: Flow::Plain,
-    }
-}
+/// mov edi, 0x404000; mov rax, [rdi]; mfence; mov [rdi], rax; mov rcx, rdx; mov rax, 0x1122334400007788; ret
+const CODE: &[u8] =
+    b"\xBF\0\x40\x40\0\x48\x8B\x07\x0F\xAE\xF0\x48\x89\x07\x48\x89\xD1\x48\xB8\x88\x77\0\0\x44\x33\x22\x11\xC3";
 
 // words as `llvm-mc -triple=aarch64 -show-encoding` gives them
 #[test]
 fn translates_each_instruction(rt: HostRuntime) -> Result<(), Fail> {
-    let line = [
-        placed(
-            0x401000,
-            5,
-            Instr::Mov(Width::Long, register(7), Operand::Imm(0x404000)),
-        ),
-        placed(0x401005, 3, Instr::Mov(Width::Quad, register(0), at(7))),
-        placed(0x401008, 3, Instr::Mfence),
-        placed(0x40100B, 3, Instr::Mov(Width::Quad, at(7), register(0))),
-        placed(
-            0x40100E,
-            3,
-            Instr::Mov(Width::Quad, register(1), register(2)),
-        ),
-        placed(
-            0x401011,
-            10,
-            Instr::Mov(
-                Width::Quad,
-                register(0),
-                Operand::Imm(0x1122_3344_0000_7788),
-            ),
-        ),
-        placed(0x40101B, 1, Instr::Ret),
-    ];
-    let words = translate_line(rt.alloc(), 0x401000, &line)?;
+    let alloc = rt.alloc();
+    let threads = [thread(alloc, b"thread_0", 0x401000)?];
+    let file = build(alloc, CODE, &[0; 64], 0x404000, &threads).map_err(|_| "not built")?;
+    let elf = read_elf(alloc, &file).map_err(|_| "refused")?;
+    let lines = read_lines(alloc, &elf).map_err(|_| "not read")?;
+    let mut words = Vec::new(alloc);
+    for line in &lines {
+        words.extend_from_slice(&translate_line(alloc, line.first, line.placed.as_slice())?)?;
+    }
     let wanted: [u32; 17] = [
         0xD288_0007, // movz x7, #0x4000
         0xF2A0_0807, // movk x7, #0x40, lsl #16
