@@ -3,6 +3,8 @@
 -- what a row or a step does is decided by the values that it reads and takes in
 pub use Rattle.x64_table.proofs.OpenLemmas.{rows_open}
 pub use Rattle.x64_table.proofs.MachineLemmas.{steps_open}
+-- rows make only items that are allowed
+pub use Rattle.x64_table.proofs.AllowedLemmas.{rows_allowed}
 -- the shape of each row: at most one read and then at most one write, with the slots that they are
 pub use Rattle.x64_table.proofs.Shapes.{Shape, row_shape}
 -- what each run of a row to its end has: a property by cases on its shape, carried to the run

@@ -1,3 +1,4 @@
+pub mod AllowedLemmas
 pub mod CallerLemmas
 pub mod MachineLemmas
 pub mod OpenLemmas

@@ -105,7 +105,8 @@ all_joined : (P : Item → Type 0) (xs ys : List Item) → AllByRecursion P xs �
 all_joined P [] ys first second = second
 all_joined P (x ∷ xs) ys first second = (first.0, all_joined P xs ys first.1 second)
 
-path_items : (P : Item → Type 0) {row : Row} {made : List Item} {p : Point (Next Exit)} {n : ℕ} → AllMakes P row → Path row made p n → AllByRecursion P made
+-- what holds of each item that a row can make holds of those of its runs, cut or not
+pub path_items : (P : Item → Type 0) {row : Row} {made : List Item} {p : Point (Next Exit)} {n : ℕ} → AllMakes P row → Path row made p n → AllByRecursion P made
 path_items P all cut = tt
 path_items P all gives = tt
 path_items P all (begins path) = path_items P all path

@@ -1,5 +1,7 @@
 -- What rows are, said of whole runs of them.
-use Rattle.std.specs.Prelude.{◌≡◌, ◌↔◌, ℕ, Bool, List, [], ◌∷◌, ◌++◌, map, Option, Some, None, IfSome, if◌then◌else◌, Contains}
+use Rattle.std.specs.List.{AllByRecursion}
+use Rattle.ev_graph.specs.WellFormed.{is_write}
+use Rattle.std.specs.Prelude.{◌&&◌, ◌^◌, ◌<◌, true, false, ◌≡◌, ◌↔◌, ℕ, Bool, List, [], ◌∷◌, ◌++◌, map, Option, Some, None, IfSome, if◌then◌else◌, Contains}
 use Rattle.ev_graph.specs.declared.events.Access.{Access}
 use Rattle.ev_graph.specs.declared.events.AccessKind.TheVariants as kinds
 use Rattle.ev_graph.specs.declared.events.FenceKind.TheVariants.{Mfence}
@@ -36,6 +38,20 @@ RowsAreOpen = (may : Permission) (instr : Instr) (length : ℕ) (f : Flow) (s : 
 -- Each time that a row goes on, it has made exactly the accesses that its instruction's slots list.
 abbrev pub RowsMakeSlots : Type 0
 RowsMakeSlots = OfEachRow (λ place instr f row. (made : List Item) (exit : Exit) (n : ℕ) → Path row made (At (Goes exit)) n → slots_made made ≡ slot_kinds instr f)
+
+-- An item of a row at a place is one that the permission allows, and its value fits: a read where reading is allowed, a write
+-- where writing is, and each of a locked pair where both are.
+abbrev pub IsAllowed : Permission → (place : ℕ) → Item → Type 0
+IsAllowed may place (items.Access a) =
+    (a.place ≡ place) × (a.value < 256 ^ a.size) × (may (is_write a.kind) a.address a.size ≡ true) × (a.locked ≡ true → (may false a.address a.size && may true a.address a.size) ≡ true)
+IsAllowed may place (items.Fence f) = f ≡ record { kind = Mfence; place = place }
+IsAllowed may place (items.Input t) = (t.place ≡ place) × (t.value < 2 ^ 64)
+IsAllowed may place (items.Output t) = t.place ≡ place
+
+-- Each item of each run of a row, maybe cut, is one that is allowed.
+abbrev pub RowsAreAllowed : Type 0
+RowsAreAllowed = (may : Permission) (instr : Instr) (length : ℕ) (f : Flow) (s : Thread) → IsFormed instr
+    → (made : List Item) (p : Point (Next Exit)) (n : ℕ) → Path (row_of may instr length f s) made p n → AllByRecursion (IsAllowed may s.at) made
 
 -- the values of a row's read and input are those that are given
 pub record HasGiven (given : Given) (made : RowItems) : Type 0 where

@@ -1,4 +1,4 @@
-ghost use Rattle.x64_table.specs.Laws.{RowsAreOpen, RowsMakeSlots, RowsRun, RowsRunOnly, RowsWant};
+ghost use Rattle.x64_table.specs.Laws.{RowsAreAllowed, RowsAreOpen, RowsMakeSlots, RowsRun, RowsRunOnly, RowsWant};
 ghost use Rattle.x64_table.specs.Machine.{StepsAreOpen};
 
 /// What an instruction does is decided by the values that it reads and takes in.
@@ -11,6 +11,12 @@ pub fn rows_are_open()
 #[tactic(auto, using(crate::proofs::ShapeLemmas::rows_slots))]
 pub fn rows_make_slots()
     ensures { RowsMakeSlots }
+{}
+
+/// Each item that a row makes, in runs that are cut too, is allowed by the permission, and its value fits.
+#[tactic(auto, using(crate::proofs::AllowedLemmas::rows_allowed))]
+pub fn rows_are_allowed()
+    ensures { RowsAreAllowed }
 {}
 
 /// Each run of a row to its end is what `row` answers on the run's values.

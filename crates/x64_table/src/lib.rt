@@ -27,7 +27,8 @@ mod values;
 pub use answer::{Next, XRow};
 pub use ev_graph::{RowItems, Wanted};
 pub use laws::{
-    rows_are_open, rows_make_slots, rows_run, rows_run_only, rows_want, steps_are_open,
+    rows_are_allowed, rows_are_open, rows_make_slots, rows_run, rows_run_only, rows_want,
+    steps_are_open,
 };
 pub use rows::row;
 pub use state::X64State;
