@@ -1,0 +1,4 @@
+pub mod Values
+pub mod Steps
+pub mod Blocks
+pub mod Conditions
