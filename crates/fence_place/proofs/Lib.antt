@@ -1,0 +1,3 @@
+mod Searched
+mod Placed
+mod Well
