@@ -1,6 +1,6 @@
 //! Fences of the intermediate form, placed around the accesses that are not private.
-//! Others rest on `place`, by its clauses `fences`, `meaning` and `well`.
-//! Source: Rocha et al., Lasagne: A Static Binary Translator for Weak Memory Model Architectures, PLDI 2022, section 6 (the mapping from x86).
+//! Others rest on `place`, by its clauses `first`, `end`, `fences`, `meaning` and `well`.
+//! Sources: Rocha et al., PLDI 2022 (the mapping from x86 to LIMM); the treatment of private accesses is this project's own.
 #![tactic(auto)]
 
 mod marked;
