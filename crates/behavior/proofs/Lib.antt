@@ -10,3 +10,4 @@ pub mod ActsLemmas
 pub mod Unfolding
 pub mod Makes
 pub mod NumberedLemmas
+pub mod Ticks

@@ -5,3 +5,4 @@ pub mod Numbered
 pub mod Acts
 pub mod Kept
 pub mod Explained
+pub mod Leaving

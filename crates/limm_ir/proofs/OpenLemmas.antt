@@ -2,10 +2,11 @@
 use Rattle.std.proofs.Common.{ℕ, ◌^◌, ◌%◌, ◌==◌, Bool, true, false, List, [], ◌∷◌, Some, None}
 use Rattle.std.specs.Prelude.{if◌then◌else◌}
 use Rattle.ev_graph.specs.declared.events.Item.TheVariants as items
-use Rattle.behavior.specs.Tree.{Tree, Begins, Next, ◌then◌}
+use Rattle.behavior.specs.Tree.{Tree, Next, ◌then◌, ticks}
 use Rattle.behavior.specs.Acts.{put, Permission, goes, traps}
 use Rattle.behavior.specs.Explained.{IsOpen}
 use Rattle.behavior.proofs.ActsLemmas.{open_then, open_makes, open_reads, open_writes, open_exchanges, open_takes_in}
+use Rattle.behavior.proofs.Ticks.{open_ticks}
 use Rattle.limm_ir.specs.Values.{rmw_value}
 use Rattle.limm_ir.specs.Steps.{IrState, of, set, fence_of, ir_step, ir_steps}
 use Rattle.limm_ir.specs.Blocks.{ir_end, BlocksAreOpen}
@@ -38,9 +39,10 @@ step_open may steps.Output s = open_makes (items.Output (record { value = s.regs
 step_open may (steps.TrapIf t kind) s = either (of s t == 0) (goes s) (traps kind) tt tt
 
 -- the values that steps read and take in decide what they do
-pub steps_open : (may : Permission) (xs : List IrStep) (s : IrState) → IsOpen (ir_steps may xs s)
-steps_open may [] s = tt
-steps_open may (x ∷ xs) s = open_then (Begins (ir_step may x s)) (ir_steps may xs) (step_open may x s) (steps_open may xs)
+pub steps_open : (cost : IrStep → ℕ) (may : Permission) (xs : List IrStep) (s : IrState) → IsOpen (ir_steps cost may xs s)
+steps_open cost may [] s = tt
+steps_open cost may (x ∷ xs) s =
+    open_then (ticks (cost x) (ir_step may x s)) (ir_steps cost may xs) (open_ticks (cost x) (ir_step may x s) (step_open may x s)) (steps_open cost may xs)
 
 end_open : (end : IrEnd) (s : IrState) → IsOpen (ir_end end s)
 end_open (ends.Goto a) s = tt
@@ -51,4 +53,4 @@ end_open (ends.Stop kind) s = tt
 
 -- and what a block does
 pub blocks_open : BlocksAreOpen
-blocks_open may xs end s = open_then (ir_steps may xs s) (ir_end end) (steps_open may xs s) (end_open end)
+blocks_open cost may xs end s = open_then (ir_steps cost may xs s) (ir_end end) (steps_open cost may xs s) (end_open end)

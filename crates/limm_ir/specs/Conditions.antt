@@ -1,7 +1,7 @@
 -- When a block is well made: its operands are in range, and each temporary is set before it is read.
-use Rattle.std.specs.Prelude.{◌≡◌, ◌≢◌, ℕ, ◌<◌, ◌==◌, List, [], ◌∷◌, Option, Some, None, if◌then◌else◌}
+use Rattle.std.specs.Prelude.{◌≡◌, ◌≢◌, ℕ, ◌^◌, ◌<◌, ◌≤◌, ◌==◌, List, [], ◌∷◌, ◌++◌, length, eqb, Option, Some, None, if◌then◌else◌, Contains}
 use Rattle.std.specs.Prelude.{◌⊎◌}
-use Rattle.std.specs.List.{AllByRecursion}
+use Rattle.std.specs.List.{AllByRecursion, IsDistinct}
 use Rattle.ev_graph.specs.declared.events.TrapKind.{TrapKind}
 use Rattle.ev_graph.specs.declared.events.TrapKind.TheVariants.{BadAccess}
 use Rattle.limm_ir.specs.declared.block.IrEnd.{IrEnd}
@@ -106,3 +106,35 @@ IsWell end known (x ∷ xs) = AllByRecursion (λ t. IsSet (known t)) (step_reads
 -- a block is well made: no temporary is set before it
 abbrev pub IsWellMade : List IrStep → IrEnd → Type 0
 IsWellMade xs end = IsWell end (λ t. Unset) xs
+
+-- one of the steps sets the temporary
+abbrev pub IsSetIn : List IrStep → ℕ → Type 0
+IsSetIn [] t = ⊥
+IsSetIn (x ∷ xs) t = (step_sets x ≡ Some t) ⊎ IsSetIn xs t
+
+-- no temporary is set twice
+abbrev pub SetsOnce : List IrStep → Type 0
+SetsOnce [] = Unit {0}
+SetsOnce (x ∷ xs) = ((t : ℕ) → step_sets x ≡ Some t → IsSetIn xs t → ⊥) × SetsOnce xs
+
+-- one of the steps, or the end, reads the temporary
+abbrev pub IsRead : IrEnd → List IrStep → ℕ → Type 0
+IsRead end [] t = Contains (end_reads end) t
+IsRead end (x ∷ xs) t = Contains (step_reads x) t ⊎ IsRead end xs t
+
+-- A temporary is live at a step: it is set before the step or by it, and set by it or read by it or later.
+abbrev pub IsLiveAt : IrEnd → (before : List IrStep) → IrStep → (behind : List IrStep) → ℕ → Type 0
+IsLiveAt end before x behind t = (IsSetIn before t ⊎ (step_sets x ≡ Some t)) × ((step_sets x ≡ Some t) ⊎ IsRead end (x ∷ behind) t)
+
+-- at each step at most so many temporaries are live
+abbrev pub LiveAtMost : ℕ → IrEnd → List IrStep → Type 0
+LiveAtMost most end xs = (before : List IrStep) (x : IrStep) (behind : List IrStep) → xs ≡ before ++ x ∷ behind
+    → (ts : List ℕ) → IsDistinct eqb ts → AllByRecursion (IsLiveAt end before x behind) ts → length ts ≤ most
+
+-- What selection and the allocation of registers rest on: the block is well made, sets no temporary twice and none of a great
+-- number, and has at most six of them live at any step.
+pub record IsSelectable (xs : List IrStep) (end : IrEnd) : Type 0 where
+  pub well : IsWellMade xs end
+  pub once : SetsOnce xs
+  pub small : (t : ℕ) → IsSetIn xs t → t < 2 ^ 25
+  pub few : LiveAtMost 6 end xs

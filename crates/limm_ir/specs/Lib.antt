@@ -1,4 +1,5 @@
 pub mod Values
 pub mod Steps
+pub mod Costs
 pub mod Blocks
 pub mod Conditions

@@ -2,7 +2,7 @@
 use Rattle.std.specs.Prelude.{ℕ, ◌^◌, ◌%◌, ◌==◌, List, [], ◌∷◌, Option, Some, None, if◌then◌else◌}
 use Rattle.ev_graph.specs.declared.events.FenceKind.{FenceKind}
 use Rattle.ev_graph.specs.declared.events.FenceKind.TheVariants as kinds
-use Rattle.behavior.specs.Tree.{Tree, Begins, Next, ◌then◌}
+use Rattle.behavior.specs.Tree.{Tree, Next, ◌then◌, ticks}
 use Rattle.behavior.specs.Acts.{Bank, put, Permission, goes, traps, reads, writes, exchanges, fences_at, takes_in, puts_out}
 use Rattle.limm_ir.specs.Values.{op_value, rmw_value}
 use Rattle.limm_ir.specs.declared.step.IrFence.{IrFence}
@@ -50,7 +50,7 @@ ir_step may steps.Input s = takes_in 0 (λ v. goes (record s { regs = put 0 v s.
 ir_step may steps.Output s = puts_out 0 (s.regs 7) (goes s)
 ir_step may (steps.TrapIf t kind) s = if of s t == 0 then goes s else traps kind
 
--- steps, one behind the other
-abbrev pub ir_steps : Permission → List IrStep → IrState → Tree (Next IrState)
-ir_steps may [] s = goes s
-ir_steps may (x ∷ xs) s = Begins (ir_step may x s) then ir_steps may xs
+-- Steps, one behind the other. Each begins as many instructions as it costs before it does anything.
+abbrev pub ir_steps : (cost : IrStep → ℕ) → Permission → List IrStep → IrState → Tree (Next IrState)
+ir_steps cost may [] s = goes s
+ir_steps cost may (x ∷ xs) s = ticks (cost x) (ir_step may x s) then ir_steps cost may xs

@@ -1,0 +1,4 @@
+pub mod Registers
+pub mod Renamed
+pub mod Blocks
+pub mod Conditions
