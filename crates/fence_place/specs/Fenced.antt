@@ -6,6 +6,7 @@ use Rattle.x64_syntax.specs.declared.slots.SlotKind.TheVariants.{Read, Write}
 use Rattle.behavior.specs.Acts.{Permission}
 use Rattle.behavior.specs.Seen.{placed}
 use Rattle.behavior.specs.Kept.{SameNext, Keeps}
+use Rattle.limm_ir.specs.Costs.{step_cost, fenced_cost}
 use Rattle.limm_ir.specs.Steps.{IrState, ir_steps}
 use Rattle.limm_ir.specs.declared.step.IrFence.TheVariants.{Frm, Fww, Fsc}
 use Rattle.limm_ir.specs.declared.step.IrStep.{IrStep}
@@ -31,6 +32,7 @@ IsFenced private xs ys = ys ≡ flat_map (fenced private) xs
 abbrev pub IsSameState : IrState → IrState → Type 0
 IsSameState s t = s ≡ t
 
--- fences keep accesses with their places, inputs and outputs, and the state
+-- Fences keep accesses with their places, inputs and outputs, and the state. Steps cost what they cost with their fences.
 abbrev pub KeepsPlaced : List IrStep → List IrStep → Type 0
-KeepsPlaced xs ys = (may : Permission) (s : IrState) → Keeps placed 3 0 (SameNext IsSameState) (ir_steps may xs s) (ir_steps may ys s)
+KeepsPlaced xs ys = (may : Permission) (s : IrState)
+    → Keeps placed 1 0 (SameNext IsSameState) (ir_steps fenced_cost may xs s) (ir_steps step_cost may ys s)

@@ -2,7 +2,7 @@ ghost use Rattle.std.specs.Prelude.{◌≡◌, ◌++◌, IfOk, OnOk};
 ghost use Rattle.std.specs.List.{flat_map};
 ghost use Rattle.fence_place.specs.Fenced.{fenced, IsFenced, KeepsPlaced};
 ghost use Rattle.fence_place.specs.Marked.{IsSorted};
-ghost use Rattle.limm_ir.specs.Conditions.{IsWellMade};
+ghost use Rattle.limm_ir.specs.Conditions.{IsSelectable};
 
 use crate::marked::is_marked;
 use ev_graph::{List, NoMemory};
@@ -18,7 +18,7 @@ pub fn place(alloc: Global, block: IrBlock, private: &Marks) -> Result<IrBlock, 
     ensures end { IfOk result (λ b. b.end ≡ block.end) }
     ensures fences { IfOk result (λ b. IsFenced private.now.slots block.steps b.steps) }
     ensures meaning { IfOk result (λ b. KeepsPlaced block.steps b.steps) }
-    ensures well { IsWellMade block.steps block.end → IfOk result (λ b. IsWellMade b.steps b.end) }
+    ensures selectable { IsSelectable block.steps block.end → IfOk result (λ b. IsSelectable b.steps b.end) }
 {
     let steps = fence_each(alloc, block.steps.as_slice(), private)?;
     Ok(IrBlock {

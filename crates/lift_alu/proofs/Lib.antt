@@ -1,0 +1,4 @@
+mod OperandValues
+mod FlagValues
+mod Meaning
+mod Selectable

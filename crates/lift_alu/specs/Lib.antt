@@ -1,0 +1,6 @@
+pub mod Formulas
+pub mod Operands
+pub mod Flags
+pub mod Lifted
+pub mod Built
+pub mod Meant

@@ -9,7 +9,7 @@ use Rattle.x64_syntax.specs.declared.operand.Operand.{Operand}
 use Rattle.x64_syntax.specs.declared.operand.Operand.TheVariants as operand
 use Rattle.x64_syntax.specs.declared.operand.Width.{Width}
 use Rattle.x64_syntax.specs.declared.operand.Width.TheVariants as width
-use Rattle.x64_syntax.specs.Formed.{ArePair, IsCount, IsFormed, IsInMemory, IsInRegister, IsNumber, IsStored, LocksMemory}
+use Rattle.x64_syntax.specs.Formed.{IsNarrow, ArePair, IsCount, IsFormed, IsInMemory, IsInRegister, IsNumber, IsStored, LocksMemory}
 use Rattle.x64_syntax.specs.Operands.{bits, is_in_memory}
 use Rattle.x64_decode.specs.declared.row.Before.{Before}
 use Rattle.x64_decode.specs.declared.row.Before.TheVariants as before
@@ -159,6 +159,12 @@ is_without_w _ = false
 abbrev pub is_condition : ℕ → Bool
 is_condition c = nat_lt c 16 && (not (c == 10) && not (c == 11))
 
+-- a source of 8 or 16 bits
+abbrev pub is_narrow : Width → Bool
+is_narrow width.Byte = true
+is_narrow width.Word = true
+is_narrow _ = false
+
 abbrev pub source_size : Width → Size
 source_size width.Byte = size.Byte
 source_size width.Word = size.Word
@@ -184,8 +190,8 @@ shaped name.Test r = is_pair r.size r.to r.from
 shaped name.Xchg r = stored r.size r.to && (in_register r.size r.from && locks r)
 shaped name.Mov r = is_pair r.size r.to r.from
 shaped name.Lea r = not (is_byte r.size) && (in_register r.size r.to && must_be_memory r.from)
-shaped (name.MovZx v) r = not (is_byte r.size) && (in_register r.size r.to && stored (source_size v) r.from)
-shaped (name.MovSx v) r = not (is_byte r.size) && (in_register r.size r.to && stored (source_size v) r.from)
+shaped (name.MovZx v) r = not (is_byte r.size) && (is_narrow v && (in_register r.size r.to && stored (source_size v) r.from))
+shaped (name.MovSx v) r = not (is_byte r.size) && (is_narrow v && (in_register r.size r.to && stored (source_size v) r.from))
 shaped name.MovSxd r = in_register size.Quad r.to && stored size.Long r.from
 shaped name.Push r = stored size.Quad r.to || is_distance r
 shaped name.Pop r = stored size.Quad r.to
@@ -420,15 +426,25 @@ source_is f width.Word = refl
 source_is f width.Long = refl
 source_is f width.Quad = refl
 
+narrow_is : (v : Width) → is_narrow v ≡ true → IsNarrow v
+narrow_is width.Byte h = inl refl
+narrow_is width.Word h = inr refl
+narrow_is width.Long h = absurd (cc)
+narrow_is width.Quad h = absurd (cc)
+
 extension_is : (f : Front) (r : Row) (rest : List ℕ) (v : Width) → AllByRecursion IsByte rest →
-    (not (is_byte r.size) && (in_register r.size r.to && stored (source_size v) r.from)) ≡ true →
-    (width_of f r.size ≢ width.Byte) × (IsInRegister (width_of f r.size) (operand_at f r rest r.to) × IsStored v (operand_at f r rest r.from))
+    (not (is_byte r.size) && (is_narrow v && (in_register r.size r.to && stored (source_size v) r.from))) ≡ true →
+    (width_of f r.size ≢ width.Byte) × (IsNarrow v × (IsInRegister (width_of f r.size) (operand_at f r rest r.to) × IsStored v (operand_at f r rest r.from)))
 extension_is f r rest v bytes h =
-    let parts = and_parts (not (is_byte r.size)) (in_register r.size r.to && stored (source_size v) r.from) h in
-    let others = and_parts (in_register r.size r.to) (stored (source_size v) r.from) parts.1 in
+    let parts = and_parts (not (is_byte r.size)) (is_narrow v && (in_register r.size r.to && stored (source_size v) r.from)) h in
+    let operands = and_parts (is_narrow v) (in_register r.size r.to && stored (source_size v) r.from) parts.1 in
+    let others = and_parts (in_register r.size r.to) (stored (source_size v) r.from) operands.1 in
     let P : Width → Type 0 = λ w. IsStored w (operand_at f r rest r.from) in (
       width-not_byte f r.size (not-true (is_byte r.size) parts.0),
-      (register_is f r rest r.size r.to others.0, subst P (source_is f v) (stored_is f r rest (source_size v) r.from bytes others.1)),
+      (
+        narrow_is v operands.0,
+        (register_is f r rest r.size r.to others.0, subst P (source_is f v) (stored_is f r rest (source_size v) r.from bytes others.1)),
+      ),
     )
 
 without_w : (b : Before) (f : Front) → is_without_w b ≡ true → before_allows b f ≡ true → rex_bit 8 f.rex ≡ 0

@@ -60,6 +60,10 @@ ArePair w to from =
     (IsStored w to × IsInRegister w from)
     ⊎ ((IsInRegister w to × IsStored w from) ⊎ (IsStored w to × IsNumber w from))
 
+-- a width of 8 or 16 bits
+abbrev pub IsNarrow : Width → Type 0
+IsNarrow w = (w ≡ width.Byte) ⊎ (w ≡ width.Word)
+
 -- what is locked is memory
 abbrev pub LocksMemory : Bool → Operand → Type 0
 LocksMemory locked to = locked ≡ true → is_in_memory to ≡ true
@@ -75,8 +79,8 @@ IsFormed (instr.Test w to from) = ArePair w to from
 IsFormed (instr.Xchg w to from locked) = IsStored w to × (IsInRegister w from × (locked ≡ is_in_memory to))
 IsFormed (instr.Mov w to from) = ArePair w to from
 IsFormed (instr.Lea w to from) = (w ≢ width.Byte) × (IsInRegister w to × IsInMemory from)
-IsFormed (instr.MovZx w v to from) = (w ≢ width.Byte) × (IsInRegister w to × IsStored v from)
-IsFormed (instr.MovSx w v to from) = (w ≢ width.Byte) × (IsInRegister w to × IsStored v from)
+IsFormed (instr.MovZx w v to from) = (w ≢ width.Byte) × (IsNarrow v × (IsInRegister w to × IsStored v from))
+IsFormed (instr.MovSx w v to from) = (w ≢ width.Byte) × (IsNarrow v × (IsInRegister w to × IsStored v from))
 IsFormed (instr.MovSxd to from) = IsInRegister width.Quad to × IsStored width.Long from
 IsFormed (instr.Push from) = IsStored width.Quad from ⊎ IsNumber width.Quad from
 IsFormed (instr.Pop to) = IsStored width.Quad to

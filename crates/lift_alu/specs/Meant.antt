@@ -1,0 +1,54 @@
+-- What it means that steps do what an instruction does.
+use Rattle.std.specs.Prelude.{◌≡◌, ℕ, ◌+◌, ◌%◌, ◌^◌, ◌<◌, ◌≤◌, List, [], ◌∷◌}
+use Rattle.ev_graph.specs.declared.events.TrapKind.TheVariants.{Invalid}
+use Rattle.word_arith.specs.Bits.{bit}
+use Rattle.behavior.specs.Acts.{Permission}
+use Rattle.behavior.specs.Leaving.{SameLeft}
+use Rattle.behavior.specs.Seen.{placed_full}
+use Rattle.behavior.specs.Kept.{SameNext, Keeps}
+use Rattle.x64_syntax.specs.declared.instr.Instr.{Instr}
+use Rattle.x64_syntax.specs.declared.instr.Instr.TheVariants as instr
+use Rattle.x64_syntax.specs.declared.placed.Placed.{Placed}
+use Rattle.x64_table.specs.State.{Thread}
+use Rattle.x64_table.specs.Blocks.{x64_block}
+use Rattle.limm_ir.specs.Conditions.{IsSetIn}
+use Rattle.limm_ir.specs.Costs.{fenced_cost}
+use Rattle.limm_ir.specs.Steps.{IrState}
+use Rattle.limm_ir.specs.Blocks.{ir_block}
+use Rattle.limm_ir.specs.declared.block.IrEnd.{IrEnd}
+use Rattle.limm_ir.specs.declared.block.IrEnd.TheVariants as ends
+use Rattle.limm_ir.specs.declared.step.IrStep.{IrStep}
+use Rattle.lift_alu.specs.Formulas.{temp}
+
+-- registers and flags of a thread and of the steps are the same, and registers hold 64 bits
+pub record SameThread (s : Thread) (i : IrState) : Type 0 where
+  pub regs : (r : ℕ) → r < 16 → i.regs r ≡ s.regs r
+  pub fit : (r : ℕ) → r < 16 → s.regs r < 2 ^ 64
+  pub cf : i.flags 0 ≡ bit s.flags.cf
+  pub zf : i.flags 1 ≡ bit s.flags.zf
+  pub sf : i.flags 2 ≡ bit s.flags.sf
+  pub of : i.flags 3 ≡ bit s.flags.of
+
+-- the address behind an instruction
+abbrev pub after : Placed → ℕ
+after p = (p.address + p.length) % 2 ^ 64
+
+-- How a block ends whose last instruction this is, where that instruction's temporaries begin at `temps`: RET has what it has
+-- popped in the second of them.
+abbrev pub end_from : Instr → (next_address temps : ℕ) → IrEnd
+end_from instr.Ret next_address temps = ends.Return (temp (temps + 1))
+end_from instr.Ud2 next_address temps = ends.Stop Invalid
+end_from i next_address temps = ends.Goto next_address
+
+abbrev pub end_of : Placed → (temps : ℕ) → IrEnd
+end_of p temps = end_from p.instr (after p) temps
+
+-- The steps do what the instruction does, with its fence where it is one: they are begun as often as they cost at most, with
+-- fences, which is no more than `most` times.
+abbrev pub LiftsInstr : (most : ℕ) → Placed → (temps : ℕ) → List IrStep → Type 0
+LiftsInstr most p temps steps = (may : Permission) (table : ℕ) (s : Thread) (i : IrState) → s.at ≡ p.address → SameThread s i
+    → Keeps placed_full most 0 (SameNext (SameLeft SameThread)) (x64_block may table (p ∷ []) s) (ir_block fenced_cost may steps (end_of p temps) i)
+
+-- the temporaries that steps set are among the 256 from a number on
+abbrev pub SetsFrom : (temps : ℕ) → List IrStep → Type 0
+SetsFrom temps xs = (t : ℕ) → IsSetIn xs t → (temps ≤ t) × (t < temps + 256)
