@@ -1,3 +1,4 @@
 mod Searched
 mod Placed
 mod Well
+mod Selectable

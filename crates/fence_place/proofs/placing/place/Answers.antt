@@ -2,15 +2,15 @@ use Rattle.std.proofs.Common.{◌∙◌, ap, sym, subst}
 use Rattle.std.specs.List.{flat_map}
 use Rattle.fence_place.specs.Fenced.{fenced}
 use Rattle.fence_place.proofs.Placed.{fences_keep}
-use Rattle.limm_ir.specs.Conditions.{Unset, IsWellMade}
-use Rattle.fence_place.proofs.Well.{fences_well}
+use Rattle.limm_ir.specs.Conditions.{IsSelectable}
+use Rattle.fence_place.proofs.Selectable.{fences_selectable}
 use Rattle.fence_place.proofs.placing.place.Goals as goal
 
 pub returns-clause-meaning : goal.returns-clause-meaning
 returns-clause-meaning c =
     fences_keep c.args.private.now.slots c.args.block.steps c.of.result (c.of.ensures ∙ c.in_ok-steps.ensures ∙ ap (flat_map (fenced c.args.private.now.slots)) c.as_slice.ensures)
 
-pub returns-clause-well : goal.returns-clause-well
-returns-clause-well c = λ well.
+pub returns-clause-selectable : goal.returns-clause-selectable
+returns-clause-selectable c = λ selectable.
     let same = c.of.ensures ∙ c.in_ok-steps.ensures ∙ ap (flat_map (fenced c.args.private.now.slots)) c.as_slice.ensures in
-    subst (λ ys. IsWellMade ys c.args.block.end) (sym same) (fences_well c.args.block.end c.args.private.now.slots c.args.block.steps (λ t. Unset) well)
+    subst (λ ys. IsSelectable ys c.args.block.end) (sym same) (fences_selectable c.args.block.end c.args.private.now.slots c.args.block.steps selectable)
