@@ -11,3 +11,4 @@ pub mod Unfolding
 pub mod Makes
 pub mod NumberedLemmas
 pub mod Ticks
+pub mod Results

@@ -1,6 +1,6 @@
 ghost use Rattle.std.specs.Prelude.{◌≡◌, ◌++◌, IfOk, OnOk};
 ghost use Rattle.std.specs.List.{flat_map};
-ghost use Rattle.fence_place.specs.Fenced.{fenced, IsFenced, KeepsPlaced};
+ghost use Rattle.fence_place.specs.Fenced.{fenced, IsFenced, KeepsPlaced, KeepsFullFences};
 ghost use Rattle.fence_place.specs.Marked.{IsSorted};
 ghost use Rattle.limm_ir.specs.Conditions.{IsSelectable};
 
@@ -18,6 +18,7 @@ pub fn place(alloc: Global, block: IrBlock, private: &Marks) -> Result<IrBlock, 
     ensures end { IfOk result (λ b. b.end ≡ block.end) }
     ensures fences { IfOk result (λ b. IsFenced private.now.slots block.steps b.steps) }
     ensures meaning { IfOk result (λ b. KeepsPlaced block.steps b.steps) }
+    ensures full { IfOk result (λ b. KeepsFullFences block.steps b.steps) }
     ensures selectable { IsSelectable block.steps block.end → IfOk result (λ b. IsSelectable b.steps b.end) }
 {
     let steps = fence_each(alloc, block.steps.as_slice(), private)?;

@@ -2,3 +2,4 @@ mod OperandValues
 mod FlagValues
 mod Meaning
 mod Selectable
+mod Unlocked

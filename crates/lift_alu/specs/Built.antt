@@ -33,3 +33,9 @@ is_built instr.Endbr = true
 is_built instr.Mfence = true
 is_built instr.Ud2 = true
 is_built i = false
+
+-- whether control does not go on behind an instruction
+abbrev pub ends_line : Instr → Bool
+ends_line instr.Ret = true
+ends_line instr.Ud2 = true
+ends_line i = false

@@ -1,5 +1,6 @@
 -- What it means that steps do what an instruction does.
 use Rattle.std.specs.Prelude.{◌≡◌, ℕ, ◌+◌, ◌%◌, ◌^◌, ◌<◌, ◌≤◌, List, [], ◌∷◌}
+use Rattle.std.specs.List.{AllByRecursion}
 use Rattle.ev_graph.specs.declared.events.TrapKind.TheVariants.{Invalid}
 use Rattle.word_arith.specs.Bits.{bit}
 use Rattle.behavior.specs.Acts.{Permission}
@@ -11,8 +12,8 @@ use Rattle.x64_syntax.specs.declared.instr.Instr.TheVariants as instr
 use Rattle.x64_syntax.specs.declared.placed.Placed.{Placed}
 use Rattle.x64_table.specs.State.{Thread}
 use Rattle.x64_table.specs.Blocks.{x64_block}
-use Rattle.limm_ir.specs.Conditions.{IsSetIn}
-use Rattle.limm_ir.specs.Costs.{fenced_cost}
+use Rattle.limm_ir.specs.Conditions.{IsSetIn, IsUnlocked, IsSelectable}
+use Rattle.limm_ir.specs.Costs.{cost_of, fenced_cost}
 use Rattle.limm_ir.specs.Steps.{IrState}
 use Rattle.limm_ir.specs.Blocks.{ir_block}
 use Rattle.limm_ir.specs.declared.block.IrEnd.{IrEnd}
@@ -52,3 +53,11 @@ LiftsInstr most p temps steps = (may : Permission) (table : ℕ) (s : Thread) (i
 -- the temporaries that steps set are among the 256 from a number on
 abbrev pub SetsFrom : (temps : ℕ) → List IrStep → Type 0
 SetsFrom temps xs = (t : ℕ) → IsSetIn xs t → (temps ≤ t) × (t < temps + 256)
+
+-- these are the steps of an instruction: they do what it does, cost little, use temporaries of its own, and lock nothing
+pub record AreStepsOf (p : Placed) (temps : ℕ) (steps : List IrStep) : Type 0 where
+  pub meaning : LiftsInstr 62 p temps steps
+  pub few : cost_of fenced_cost steps ≤ 62
+  pub selectable : IsSelectable steps (end_of p temps)
+  pub own : SetsFrom temps steps
+  pub unlocked : AllByRecursion IsUnlocked steps

@@ -131,6 +131,12 @@ abbrev pub LiveAtMost : ℕ → IrEnd → List IrStep → Type 0
 LiveAtMost most end xs = (before : List IrStep) (x : IrStep) (behind : List IrStep) → xs ≡ before ++ x ∷ behind
     → (ts : List ℕ) → IsDistinct eqb ts → AllByRecursion (IsLiveAt end before x behind) ts → length ts ≤ most
 
+-- the step makes no locked access
+abbrev pub IsUnlocked : IrStep → Type 0
+IsUnlocked (steps.Rmw op t a v size place) = ⊥
+IsUnlocked (steps.Cas t a e v size place) = ⊥
+IsUnlocked x = Unit {0}
+
 -- What selection and the allocation of registers rest on: the block is well made, sets no temporary twice and none of a great
 -- number, and has at most six of them live at any step.
 pub record IsSelectable (xs : List IrStep) (end : IrEnd) : Type 0 where

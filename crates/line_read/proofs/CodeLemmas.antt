@@ -15,7 +15,7 @@ use Rattle.x64_decode.specs.Spelling.{Spells, Answers}
 use Rattle.x64_decode.proofs.CallerLemmas.{spellings-alone, spelling-some, decoded, refused}
 use Rattle.elf_read.specs.Elf.{IsSegment}
 use Rattle.line_read.specs.Line.{memory_bytes, code_from, StandsAt, Code, MayStand}
-use Rattle.line_read.specs.Plain.{is_built}
+use Rattle.lift_alu.specs.Built.{is_built}
 
 -- a part's memory has as many bytes as it says
 pub length-memory_bytes : (part : Part) → length (memory_bytes part) ≡ part.size

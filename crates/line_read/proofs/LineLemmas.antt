@@ -9,7 +9,7 @@ use Rattle.ev_graph.specs.Memory.{Part}
 use Rattle.x64_syntax.specs.declared.placed.Placed.{Placed}
 use Rattle.x64_decode.proofs.CallerLemmas.{spelling-formed}
 use Rattle.elf_read.specs.Elf.{IsSegment}
-use Rattle.line_read.specs.Plain.{ends_line}
+use Rattle.lift_alu.specs.Built.{ends_line}
 use Rattle.line_read.specs.Line.{StandsAt, IsLine, Code, MayStand, AllMayStand, IsBuiltLine, Leads, IsUnbuiltAt, Covers, StandFrom, EndsLast, IsTranslated, IsStraight, Stand, placed_in}
 use Rattle.line_read.specs.Lines.{end_of}
 use Rattle.line_read.proofs.CodeLemmas.{stands_once, stands_some, stands_low}

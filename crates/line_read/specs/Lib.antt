@@ -1,4 +1,3 @@
-pub mod Plain
 pub mod Line
 pub mod Window
 pub mod Lines

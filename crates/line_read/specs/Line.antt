@@ -8,7 +8,7 @@ use Rattle.x64_syntax.specs.Formed.{IsFormed}
 use Rattle.x64_decode.specs.Spelling.{Spells}
 use Rattle.elf_read.specs.declared.elf.Elf.{Elf}
 use Rattle.elf_read.specs.Elf.{parts_of}
-use Rattle.line_read.specs.Plain.{is_built, ends_line}
+use Rattle.lift_alu.specs.Built.{is_built, ends_line}
 
 -- the bytes that the memory of a part begins with
 abbrev pub memory_bytes : Part → List ℕ

@@ -3,9 +3,9 @@ ghost use Rattle.x64_syntax.specs.declared.placed.Placed.{Placed};
 ghost use Rattle.elf_read.specs.Elf.{parts_of, IsProgram};
 ghost use Rattle.line_read.specs.Line.{StandsAt, MayStand, IsUnlisted, code_of};
 
-use crate::plain::is_built;
 use crate::window::window_at;
 use elf_read::Elf;
+use lift_alu::is_built;
 use x64_decode::decode_one;
 use x64_syntax::{Flow, Placed};
 

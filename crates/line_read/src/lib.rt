@@ -7,7 +7,6 @@ mod fault;
 mod instruction;
 mod line;
 mod lines;
-mod plain;
 #[cfg(test)]
 mod tests;
 mod window;
@@ -15,4 +14,3 @@ mod window;
 pub use fault::LineFault;
 pub use line::Line;
 pub use lines::read_lines;
-pub use plain::{Plain, ends_line, plain_of};

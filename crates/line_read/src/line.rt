@@ -6,9 +6,9 @@ ghost use Rattle.line_read.specs.declared.fault.LineFault.TheVariants.{UnbuiltCo
 
 use crate::fault::LineFault;
 use crate::instruction::{LINE_LIMIT, next_of_line};
-use crate::plain::ends_line;
 use elf_read::Elf;
 use ev_graph::List;
+use lift_alu::ends_line;
 use std::alloc::Global;
 use x64_syntax::Placed;
 

@@ -1,12 +1,7 @@
-pub mod Banks
-pub mod Lists
-pub mod PlainRows
-pub mod Lifted
-pub mod Fenced
-pub mod Selected
+pub mod Rows
 pub mod LineUnfolds
 pub mod LineMakes
-pub mod LineCarried
+pub mod Passes
+pub mod Endings
 pub mod GuardedRuns
-pub mod LineTranslated
-pub mod Sizes
+pub mod LineCarried

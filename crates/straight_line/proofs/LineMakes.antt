@@ -15,11 +15,9 @@ use Rattle.x64_syntax.specs.declared.placed.Placed.{Placed}
 use Rattle.x64_table.specs.State.{Thread}
 use Rattle.x64_table.specs.Rows.{Exit, State, Return, Indexed, row_of}
 use Rattle.x64_table.specs.Machine.{straight_code, no_sites, no_entries, resolve, x64_take, x64_step}
-use Rattle.line_read.specs.declared.plain.Plain.{Plain}
-use Rattle.line_read.specs.declared.plain.Plain.TheVariants.{Move, Load, Store, Number, Fence, Return as Returns}
 use Rattle.line_read.specs.Line.{IsTranslated, placed_in}
 use Rattle.line_read.proofs.CallerLemmas.{found_holds}
-use Rattle.straight_line.proofs.PlainRows.{went, plain_row, built_plain, translated_row, IsPlain, row_makes}
+use Rattle.straight_line.proofs.Rows.{IsPlain, row_makes}
 
 resolve_makes : (may : Permission) (exit : Exit) → AllMakes (IsPlain may) (resolve no_sites no_entries exit)
 resolve_makes may (State s) = tt

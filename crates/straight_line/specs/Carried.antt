@@ -2,6 +2,7 @@
 use Rattle.std.specs.Prelude.{◌≡◌, false, ℕ, ◌^◌, ◌<◌, List, Option}
 use Rattle.ev_graph.specs.declared.events.Item.{Item}
 use Rattle.ev_graph.specs.declared.events.End.{End}
+use Rattle.word_arith.specs.Bits.{bit}
 use Rattle.behavior.specs.Acts.{Permission}
 use Rattle.behavior.specs.Run.{Run}
 use Rattle.behavior.specs.Seen.{lowered, full}
@@ -13,11 +14,16 @@ use Rattle.a64_table.specs.Machine.{AThread, a64_step}
 use Rattle.line_read.specs.Line.{Stand}
 use Rattle.straight_line.specs.Guarded.{Guarded}
 
--- a thread of x86 before the line and one of Arm before its words hold the same in their sixteen registers, and all fits 64 bits
+-- A thread of x86 before the line and one of Arm before its words hold the same in their sixteen registers, the flags CF, ZF,
+-- SF and OF are in X19 to X22, and all fits 64 bits.
 pub record Starts (first entry : ℕ) (s : Thread) (t : AThread) : Type 0 where
   pub source_at : s.at ≡ first
   pub target_at : t.at ≡ entry
   pub same : (n : ℕ) → n < 16 → t.state.regs n ≡ s.regs n
+  pub cf : t.state.regs 19 ≡ bit s.flags.cf
+  pub zf : t.state.regs 20 ≡ bit s.flags.zf
+  pub sf : t.state.regs 21 ≡ bit s.flags.sf
+  pub of : t.state.regs 22 ≡ bit s.flags.of
   pub fit : (n : ℕ) → t.state.regs n < 2 ^ 64
 
 -- The words of a code segment carry the line from an entry on: in any memory, wherever the line's instructions stand, each

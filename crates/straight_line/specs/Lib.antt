@@ -1,5 +1,3 @@
-pub mod Line
-pub mod Steps
-pub mod Passes
 pub mod Guarded
+pub mod Ending
 pub mod Carried
