@@ -1,4 +1,5 @@
 mod OperandValues
 mod FlagValues
+mod Computed
 mod Meaning
 mod Selectable
