@@ -1,7 +1,6 @@
 -- The steps of a formula set temporaries of their own, the last of them to its value, and nothing else.
 use Rattle.std.proofs.Common.{◌≡◌, ◌≢◌, ℕ, ◌+◌, ◌<◌, ◌≤◌, ◌==◌, Bool, true, false, List, [], ◌∷◌, ◌++◌, append_assoc, refl, sym, ap, ◌∙◌, subst, arith}
 use Rattle.std.specs.Prelude.{if◌then◌else◌}
-use Rattle.std.proofs.lemmas.Bool.Decides.{nat_tests}
 use Rattle.behavior.specs.Acts.{Bank, put, Permission}
 use Rattle.limm_ir.specs.Costs.{no_cost}
 use Rattle.limm_ir.specs.Values.{op_value}
@@ -9,12 +8,7 @@ use Rattle.limm_ir.specs.Steps.{IrState, ir_steps}
 use Rattle.limm_ir.specs.declared.step.IrStep.{IrStep}
 use Rattle.limm_ir.specs.declared.step.IrStep.TheVariants as steps
 use Rattle.lift_alu.specs.Formulas.{Formula, Kept, Number, Register, Flag, Operation, Choice, temp, size, place, computes, value}
-
-pub put_here : (k v : ℕ) (a : Bank) → put k v a k ≡ v
-put_here k v a = grind (arith, nat_tests)
-
-pub put_other : (k v : ℕ) (a : Bank) (n : ℕ) → n ≢ k → put k v a n ≡ a n
-put_other k v a n apart = grind (arith, nat_tests)
+use Rattle.lift_alu.proofs.Banks.{put_here, put_other}
 
 -- the temporaries behind the steps of a formula, where registers and flags are those of a state
 abbrev pub temps_behind : (next : ℕ) → Formula → IrState → Bank → Bank
@@ -130,7 +124,7 @@ value_same next (Choice c a b) i one two kept same =
     let third = value_same next b i one two kept.1.1 same in
     cc
 
--- and holds the formula's value
+-- the value's temporary holds the formula's value
 pub value_placed : (next : ℕ) (e : Formula) (i : IrState) (temps : Bank) → IsKeptBelow next e → temps_behind next e i temps (place next e) ≡ value (with_temps i temps) e
 value_placed next (Kept t) i temps kept = refl
 value_placed next (Number n) i temps kept = put_here next n temps

@@ -1,5 +1,7 @@
 mod OperandValues
 mod FlagValues
+mod Banks
 mod Computed
+mod Rules
 mod Meaning
 mod Selectable
