@@ -3,5 +3,7 @@ mod FlagValues
 mod Banks
 mod Computed
 mod Rules
+mod KeptFormulas
+mod FlagRules
 mod Meaning
 mod Selectable
