@@ -5,5 +5,6 @@ mod Computed
 mod Rules
 mod KeptFormulas
 mod FlagRules
+mod OperandRules
 mod Meaning
 mod Selectable
