@@ -6,5 +6,7 @@ mod Rules
 mod KeptFormulas
 mod FlagRules
 mod OperandRules
+mod MoveValues
+mod LiftedMoves
 mod Meaning
 mod Selectable
