@@ -8,5 +8,6 @@ mod FlagRules
 mod OperandRules
 mod MoveValues
 mod LiftedMoves
+mod LiftedStack
 mod Meaning
 mod Selectable
