@@ -9,5 +9,6 @@ mod OperandRules
 mod MoveValues
 mod LiftedMoves
 mod LiftedStack
+mod LiftedArithmetic
 mod Meaning
 mod Selectable
