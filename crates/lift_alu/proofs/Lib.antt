@@ -10,5 +10,6 @@ mod MoveValues
 mod LiftedMoves
 mod LiftedStack
 mod LiftedArithmetic
+mod LiftedSteps
 mod Meaning
 mod Selectable

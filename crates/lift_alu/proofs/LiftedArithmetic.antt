@@ -46,17 +46,17 @@ by_values : (P : ℕ → ℕ → Type 0) {x y a b : ℕ} → x ≡ a → y ≡ b
 by_values P {x} {y} {a} {b} first second here = subst (λ k. P a k) second (subst (λ k. P k y) first here)
 
 -- two values of a width are kept
-record Both (w : Width) (n : ℕ) (j : IrState) (ka kb a b : ℕ) : Type 0 where
+pub record Both (w : Width) (n : ℕ) (j : IrState) (ka kb a b : ℕ) : Type 0 where
   pub first : Holds n j ka a
   pub second : Holds n j kb b
   pub fit : a < 2 ^ bits w
   pub fits : b < 2 ^ bits w
 
-both_later : (w : Width) (n : ℕ) (j : IrState) (ka kb a b m : ℕ) (k : IrState) → IsLater n j m k → Both w n j ka kb a b → Both w m k ka kb a b
+pub both_later : (w : Width) (n : ℕ) (j : IrState) (ka kb a b m : ℕ) (k : IrState) → IsLater n j m k → Both w n j ka kb a b → Both w m k ka kb a b
 both_later w n j ka kb a b m k later both = record { first = holds_later later both.first; second = holds_later later both.second; fit = both.fit; fits = both.fits }
 
 module _ (place after : ℕ) (o : AluOp) (w : Width) where
-  below_result : (n ka kb : ℕ) → ka < n → kb < n → IsKeptBelow n (result place after o w (Kept ka) (Kept kb))
+  pub below_result : (n ka kb : ℕ) → ka < n → kb < n → IsKeptBelow n (result place after o w (Kept ka) (Kept kb))
   below_result n ka kb first second = by o
     where
       by : (o : AluOp) → IsKeptBelow n (result place after o w (Kept ka) (Kept kb))
@@ -128,7 +128,7 @@ module _ (place after : ℕ) (o : AluOp) (w : Width) where
       second_fits : j.temps kb < 2 ^ bits w
       second_fits = subst (λ k. k < 2 ^ bits w) (sym both.second.is) both.fits
 
-      result_here : HasFlags f j → value j (result place after o w (Kept ka) (Kept kb)) ≡ Leaves.value
+      pub result_here : HasFlags f j → value j (result place after o w (Kept ka) (Kept kb)) ≡ Leaves.value
       result_here flags =
           by_values (λ x y. value j (result place after o w (Kept ka) (Kept kb)) ≡ (alu_outcome o (bits w) x y f).value) both.first.is both.second.is
           (value_result place after o w f j (Kept ka) (Kept kb) flags first_fits second_fits)
@@ -174,7 +174,7 @@ module _ (place after : ℕ) (o : AluOp) (w : Width) where
     }
 
   -- the steps of the flags of an operation
-  flags_does : (may : Permission) (end : IrEnd) (q : Tree (Next (Left Thread))) (s : Thread) (n : ℕ) (j : IrState) (ka kb kr a b : ℕ) (rest : Lifting) → SameThread s j → Both w n j ka kb a b
+  pub flags_does : (may : Permission) (end : IrEnd) (q : Tree (Next (Left Thread))) (s : Thread) (n : ℕ) (j : IrState) (ka kb kr a b : ℕ) (rest : Lifting) → SameThread s j → Both w n j ka kb a b
       → Holds n j kr (alu_outcome o (bits w) a b s.flags).value → Later may end q (with_flags (alu_outcome o (bits w) a b s.flags).flags s) n j rest
       → Does may end q (flags_of place after o w (Kept ka) (Kept kb) (Kept kr) rest n) j
   flags_does may end q s n j ka kb kr a b rest same both holds go =
