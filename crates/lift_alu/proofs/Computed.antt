@@ -135,8 +135,8 @@ value_placed next (Operation op a b) i temps kept =
     let both = temps_behind (next + size a) b i one in
     let first : both (place next a) ≡ value (with_temps i temps) a = temps_before (next + size a) b i one (place next a) (place_below next a kept.0) ∙ value_placed next a i temps kept.0 in
     let second : both (place (next + size a) b) ≡ value (with_temps i temps) b =
-        value_placed (next + size a) b i one (kept_later next (next + size a) b (omega arith) kept.1)
-        ∙ value_same next b i temps one kept.1 (λ t lt. temps_before next a i temps t lt) in
+    value_placed (next + size a) b i one (kept_later next (next + size a) b (omega arith) kept.1)
+    ∙ value_same next b i temps one kept.1 (λ t lt. temps_before next a i temps t lt) in
     put_here (next + size a + size b) (op_value op (both (place next a)) (both (place (next + size a) b))) both
     ∙ ap (λ k. op_value op k (both (place (next + size a) b))) first
     ∙ ap (λ k. op_value op (value (with_temps i temps) a) k) second
@@ -146,14 +146,14 @@ value_placed next (Choice c a b) i temps kept =
     let all = temps_behind (next + size c + size a) b i two in
     let early = λ (t : ℕ) (lt : t < next). temps_before (next + size c) a i one t (omega (arith, lt)) ∙ temps_before next c i temps t lt in
     let first : all (place next c) ≡ value (with_temps i temps) c =
-        let below = place_below next c kept.0 in
-        temps_before (next + size c + size a) b i two (place next c) (omega (arith, below)) ∙ temps_before (next + size c) a i one (place next c) below ∙ value_placed next c i temps kept.0 in
+    let below = place_below next c kept.0 in
+    temps_before (next + size c + size a) b i two (place next c) (omega (arith, below)) ∙ temps_before (next + size c) a i one (place next c) below ∙ value_placed next c i temps kept.0 in
     let second : all (place (next + size c) a) ≡ value (with_temps i temps) a =
-        let kept_a = kept_later next (next + size c) a (omega arith) kept.1.0 in
-        temps_before (next + size c + size a) b i two (place (next + size c) a) (place_below (next + size c) a kept_a) ∙ value_placed (next + size c) a i one kept_a
-        ∙ value_same next a i temps one kept.1.0 (λ t lt. temps_before next c i temps t lt) in
+    let kept_a = kept_later next (next + size c) a (omega arith) kept.1.0 in
+    temps_before (next + size c + size a) b i two (place (next + size c) a) (place_below (next + size c) a kept_a) ∙ value_placed (next + size c) a i one kept_a
+    ∙ value_same next a i temps one kept.1.0 (λ t lt. temps_before next c i temps t lt) in
     let third : all (place (next + size c + size a) b) ≡ value (with_temps i temps) b =
-        value_placed (next + size c + size a) b i two (kept_later next (next + size c + size a) b (omega arith) kept.1.1)
-        ∙ value_same next b i temps two kept.1.1 early in
+    value_placed (next + size c + size a) b i two (kept_later next (next + size c + size a) b (omega arith) kept.1.1)
+    ∙ value_same next b i temps two kept.1.1 early in
     put_here (next + size c + size a + size b) (if all (place next c) == 0 then all (place (next + size c + size a) b) else all (place (next + size c) a)) all
     ∙ cc

@@ -42,13 +42,13 @@ module _ (may : Permission) (end : IrEnd) where
       sets_flag_does may end q s (with_of f.of s) next i OF overflow (bit f.of) (sets_flag ZF (Operation ops.Eq r (Number 0)) last) same flags.kept_overflow
       (flags.of next i (record { le = omega arith; temps = λ t lt. refl })) (λ j same. same_of s j f.of (bit f.of) refl same)
       (λ n1 i1 same1 later1.
-        sets_flag_does may end q (with_of f.of s) (with_zf f.zf (with_of f.of s)) n1 i1 ZF (Operation ops.Eq r (Number 0)) (bit f.zf) last same1 (kept_later next n1 r later1.le flags.kept, tt)
-        (flags.zf n1 i1 later1) (λ j same. same_zf (with_of f.of s) j f.zf (bit f.zf) refl same)
-        (λ n2 i2 same2 later2.
-          let later = later_then later1 later2 in
-          sets_flag_does may end q (with_zf f.zf (with_of f.of s)) (with_sf f.sf (with_zf f.zf (with_of f.of s))) n2 i2 SF (top w r) (bit f.sf) rest same2 (kept_later next n2 r later.le flags.kept, tt)
-          (flags.sf n2 i2 later) (λ j same. same_sf (with_zf f.zf (with_of f.of s)) j f.sf (bit f.sf) refl same)
-          (λ n3 i3 same3 later3. go n3 i3 (same_flags s i3 f is same3) (later_then later later3))))
+      sets_flag_does may end q (with_of f.of s) (with_zf f.zf (with_of f.of s)) n1 i1 ZF (Operation ops.Eq r (Number 0)) (bit f.zf) last same1 (kept_later next n1 r later1.le flags.kept, tt)
+      (flags.zf n1 i1 later1) (λ j same. same_zf (with_of f.of s) j f.zf (bit f.zf) refl same)
+      (λ n2 i2 same2 later2.
+      let later = later_then later1 later2 in
+      sets_flag_does may end q (with_zf f.zf (with_of f.of s)) (with_sf f.sf (with_zf f.zf (with_of f.of s))) n2 i2 SF (top w r) (bit f.sf) rest same2 (kept_later next n2 r later.le flags.kept, tt)
+      (flags.sf n2 i2 later) (λ j same. same_sf (with_zf f.zf (with_of f.of s)) j f.sf (bit f.sf) refl same)
+      (λ n3 i3 same3 later3. go n3 i3 (same_flags s i3 f is same3) (later_then later later3))))
 
   -- all four flags are set
   pub sets_flags_does : (q : Tree (Next (Left Thread))) (s : Thread) (next : ℕ) (i : IrState) (w : Width) (overflow carry r : Formula) (f : Flags) (rest : Lifting) → SameThread s i
@@ -59,6 +59,6 @@ module _ (may : Permission) (end : IrEnd) where
       sets_result_does q s next i w overflow r early (sets_flag CF carry rest) same
       (record { kept_overflow = flags.kept_overflow; kept = flags.kept; of = flags.of; zf = flags.zf; sf = flags.sf }) refl
       (λ n1 i1 same1 later1.
-        sets_flag_does may end q (with_flags early s) (with_flags f s) n1 i1 CF carry (bit f.cf) rest same1 (kept_later next n1 carry later1.le carries.kept)
-        (carries.cf n1 i1 later1 same1.cf) (λ j same. same_cf (with_flags early s) j f.cf (bit f.cf) refl same)
-        (λ n2 i2 same2 later2. go n2 i2 same2 (later_then later1 later2)))
+      sets_flag_does may end q (with_flags early s) (with_flags f s) n1 i1 CF carry (bit f.cf) rest same1 (kept_later next n1 carry later1.le carries.kept)
+      (carries.cf n1 i1 later1 same1.cf) (λ j same. same_cf (with_flags early s) j f.cf (bit f.cf) refl same)
+      (λ n2 i2 same2 later2. go n2 i2 same2 (later_then later1 later2)))

@@ -6,6 +6,7 @@ mod Rules
 mod KeptFormulas
 mod FlagRules
 mod OperandRules
+mod Instructions
 mod MoveValues
 mod LiftedMoves
 mod LiftedStack

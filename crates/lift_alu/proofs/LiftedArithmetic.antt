@@ -39,7 +39,7 @@ use Rattle.lift_alu.proofs.KeptFormulas.{below_clean}
 use Rattle.lift_alu.proofs.Rules.{IsLater, Does, Later, Holds, holds_later, later_then, keeps_does}
 use Rattle.lift_alu.proofs.FlagRules.{ResultFlags, CarryFlag, sets_result_does, sets_flags_does}
 use Rattle.lift_alu.proofs.OperandRules.{fetched_stored, stored_register, pair_stored, pair_fetched, low_of_fit, low_below, fetches_does, ends_does, puts_does, puts_ends, changes_does}
-use Rattle.lift_alu.proofs.LiftedMoves.{has_flags, not_locked, Follows, Means}
+use Rattle.lift_alu.proofs.Instructions.{has_flags, not_locked, Follows, Means}
 
 -- two numbers become what they are
 by_values : (P : ℕ → ℕ → Type 0) {x y a b : ℕ} → x ≡ a → y ≡ b → P x y → P a b
@@ -184,49 +184,49 @@ module _ (place after : ℕ) (o : AluOp) (w : Width) where
 
 module _ (may : Permission) (table place after temps : ℕ) (fits : after < 2 ^ 64) where
   abbrev Here : Instr → Type 0
-  Here i = Means may table place after temps fits i
+  Here i = Means may table place after temps i
 
   -- two operands are compared
   compare_does : (o : AluOp) (w : Width) (to from : Operand) → ArePair w to from → (t : Thread) (s : IrState) → t.at ≡ after → SameThread t s
-      → Does may (ends.Goto after) (compare_row may place o w to from t then Follows may table place after temps fits) (compares place after o w to from temps) s
+      → Does may (ends.Goto after) (compare_row may place o w to from t then Follows may table) (compares place after o w to from temps) s
   unfolding compare_row compares
   compare_does o w to from pair t s at same =
       let end = ends.Goto after in
-      let follows = Follows may table place after temps fits in
+      let follows = Follows may table in
       let left = λ (a b : ℕ). with_flags (alu_outcome o (bits w) a b t.flags).flags t in
       fetches_does may place after fits follows end w to t temps s (λ a. rows.fetches may place w from t (λ b. leaves (left a b)))
       (λ a. lifted.fetches place after w from (λ b. keeps (result place after o w a b) (λ r. flags_of place after o w a b r done))) same (fetched_stored w to (pair_stored w to from pair)) at
       (λ a fit ka n1 i1 same1 later1 holds1.
-        fetches_does may place after fits follows end w from t n1 i1 (λ b. leaves (left a b))
-        (λ b. keeps (result place after o w (Kept ka) b) (λ r. flags_of place after o w (Kept ka) b r done)) same1 (pair_fetched w to from pair) at
-        (λ b fit' kb n2 i2 same2 later2 holds2.
-          let both : Both w n2 i2 ka kb a b = record { first = holds_later later2 holds1; second = holds2; fit = fit; fits = fit' } in
-          let q = leaves (left a b) then follows in
-          keeps_does may end q t n2 i2 (result place after o w (Kept ka) (Kept kb)) (alu_outcome o (bits w) a b t.flags).value (λ r. flags_of place after o w (Kept ka) (Kept kb) r done) same2
-          (below_result place after o w n2 ka kb both.first.below both.second.below) (result_here place after o w t.flags ka kb a b n2 i2 both (has_flags t i2 same2))
-          (λ kr n3 i3 same3 later3 holds3.
-            flags_does place after o w may end q t n3 i3 ka kb kr a b done same3 (both_later w n2 i2 ka kb a b n3 i3 later3 both) holds3
-            (λ n4 i4 same4 later4. ends_does may place after fits table (left a b) i4 at same4))))
+      fetches_does may place after fits follows end w from t n1 i1 (λ b. leaves (left a b))
+      (λ b. keeps (result place after o w (Kept ka) b) (λ r. flags_of place after o w (Kept ka) b r done)) same1 (pair_fetched w to from pair) at
+      (λ b fit' kb n2 i2 same2 later2 holds2.
+      let both : Both w n2 i2 ka kb a b = record { first = holds_later later2 holds1; second = holds2; fit = fit; fits = fit' } in
+      let q = leaves (left a b) then follows in
+      keeps_does may end q t n2 i2 (result place after o w (Kept ka) (Kept kb)) (alu_outcome o (bits w) a b t.flags).value (λ r. flags_of place after o w (Kept ka) (Kept kb) r done) same2
+      (below_result place after o w n2 ka kb both.first.below both.second.below) (result_here place after o w t.flags ka kb a b n2 i2 both (has_flags t i2 same2))
+      (λ kr n3 i3 same3 later3 holds3.
+      flags_does place after o w may end q t n3 i3 ka kb kr a b done same3 (both_later w n2 i2 ka kb a b n3 i3 later3 both) holds3
+      (λ n4 i4 same4 later4. ends_does may place after fits table (left a b) i4 at same4))))
 
   -- the first operand becomes the result
   combine_does : (o : AluOp) (w : Width) (to from : Operand) → ArePair w to from → (t : Thread) (s : IrState) → t.at ≡ after → SameThread t s
-      → Does may (ends.Goto after) (combine_row may place o w to from false t then Follows may table place after temps fits) (combines place after o w to from temps) s
+      → Does may (ends.Goto after) (combine_row may place o w to from false t then Follows may table) (combines place after o w to from temps) s
   unfolding combine_row combines
   combine_does o w to from pair t s at same =
       let end = ends.Goto after in
-      let follows = Follows may table place after temps fits in
+      let follows = Follows may table in
       let out = λ (a b : ℕ). alu_outcome o (bits w) a b t.flags in
       fetches_does may place after fits follows end w from t temps s (λ b. becomes may place false w to t (λ a. out a b))
       (λ b. lifted.changes place after w to (λ a. result place after o w a b) (λ a r. flags_of place after o w a b r)) same (pair_fetched w to from pair) at
       (λ b fit' kb n1 i1 same1 later1 holds1.
-        changes_does may place after fits table w to t n1 i1 (λ a. result place after o w a (Kept kb)) (λ a r. flags_of place after o w a (Kept kb) r)
-        (λ a. (out a b).value) (λ a. with_flags (out a b).flags t) same1 (pair_stored w to from pair) at (λ a. at)
-        (λ a fit ka n2 i2 same2 later2 holds2.
-          let both : Both w n2 i2 ka kb a b = record { first = holds2; second = holds_later later2 holds1; fit = fit; fits = fit' } in
-          (below_result place after o w n2 ka kb both.first.below both.second.below, result_here place after o w t.flags ka kb a b n2 i2 both (has_flags t i2 same2), result_below place after o w t.flags a b fit fit'))
-        (λ a fit ka kr n2 i2 q rest same2 later2 holds2 holds3 go.
-          let both : Both w n2 i2 ka kb a b = record { first = holds2; second = holds_later later2 holds1; fit = fit; fits = fit' } in
-          flags_does place after o w may end q t n2 i2 ka kb kr a b rest same2 both holds3 go))
+      changes_does may place after fits table w to t n1 i1 (λ a. result place after o w a (Kept kb)) (λ a r. flags_of place after o w a (Kept kb) r)
+      (λ a. (out a b).value) (λ a. with_flags (out a b).flags t) same1 (pair_stored w to from pair) at (λ a. at)
+      (λ a fit ka n2 i2 same2 later2 holds2.
+      let both : Both w n2 i2 ka kb a b = record { first = holds2; second = holds_later later2 holds1; fit = fit; fits = fit' } in
+      (below_result place after o w n2 ka kb both.first.below both.second.below, result_here place after o w t.flags ka kb a b n2 i2 both (has_flags t i2 same2), result_below place after o w t.flags a b fit fit'))
+      (λ a fit ka kr n2 i2 q rest same2 later2 holds2 holds3 go.
+      let both : Both w n2 i2 ka kb a b = record { first = holds2; second = holds_later later2 holds1; fit = fit; fits = fit' } in
+      flags_does place after o w may end q t n2 i2 ka kb kr a b rest same2 both holds3 go))
 
   pub alu_means : (o : AluOp) (w : Width) (to from : Operand) (locked : Bool) → not locked ≡ true → ArePair w to from → Here (instr.Alu o w to from locked)
   unfolding acts lifts alu_row

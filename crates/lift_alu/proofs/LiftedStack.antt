@@ -35,7 +35,7 @@ use Rattle.lift_alu.proofs.OperandValues.{register_below, value_register}
 use Rattle.lift_alu.proofs.Computed.{IsKeptBelow}
 use Rattle.lift_alu.proofs.Rules.{Does, Later, Holds, holds_later, keeps_does, loads_does, stores_does}
 use Rattle.lift_alu.proofs.OperandRules.{IsFetched, fetched_stored, fetched_number, low_of_fit, fetches_does, moves_does, ends_does, puts_does}
-use Rattle.lift_alu.proofs.LiftedMoves.{low_register, Follows, Means}
+use Rattle.lift_alu.proofs.Instructions.{low_register, Follows, Means}
 
 is_rsp : IsRegister width.Quad rsp
 is_rsp = low_register width.Quad rsp refl (omega arith)
@@ -60,7 +60,7 @@ below_fits a = omega arith
 
 module _ (may : Permission) (table place after temps : ℕ) (fits : after < 2 ^ 64) where
   abbrev Here : Instr → Type 0
-  Here i = Means may table place after temps fits i
+  Here i = Means may table place after temps i
 
   -- the stack begins elsewhere, or the frame
   sets_stack : (end : IrEnd) (q : Tree (Next (Left Thread))) (t : Thread) (n : ℕ) (j : IrState) (e : Formula) (v : ℕ) (rest : Lifting) → SameThread t j → IsKeptBelow n e → value j e ≡ v → v < 2 ^ 64
@@ -77,17 +77,17 @@ module _ (may : Permission) (table place after temps : ℕ) (fits : after < 2 ^ 
   unfolding acts lifts push_row pushes below_stack pushed set
   push_means from formed f t s at same =
       let end = ends.Goto after in
-      let follows = Follows may table place after temps fits in
+      let follows = Follows may table in
       let below = below_stack t in
       fetches_does may place after fits follows end width.Quad from t temps s (λ v. writes may place below 8 v (leaves (pushed t)))
       (λ v. keeps (Operation ops.Sub (Register 4) (Number 8)) (λ b. stores place 8 (kept_in b) (kept_in v) (sets_register 4 b done))) same (fetched formed) at
       (λ v fit k n1 i1 same1 later1 held.
-        keeps_does may end (writes may place below 8 v (leaves (pushed t)) then follows) t n1 i1 (Operation ops.Sub (Register 4) (Number 8)) below
-        (λ b. stores place 8 (kept_in b) k (sets_register 4 b done)) same1 (tt, tt) (ap (λ a. (a + (2 ^ 64 - 8)) % 2 ^ 64) (stack_is t i1 same1))
-        (λ b n2 i2 same2 later2 there.
-          stores_does may end follows (leaves (pushed t)) n2 i2 place 8 b k below v (sets_register 4 (Kept b) done) there (holds_later later2 held)
-          (sets_stack end (leaves (pushed t) then follows) t n2 i2 (Kept b) below done same2 there.below there.is (below_fits (register width.Quad rsp t))
-          (λ n3 i3 same3 later3. ends_does may place after fits table (pushed t) i3 at same3))))
+      keeps_does may end (writes may place below 8 v (leaves (pushed t)) then follows) t n1 i1 (Operation ops.Sub (Register 4) (Number 8)) below
+      (λ b. stores place 8 (kept_in b) k (sets_register 4 b done)) same1 (tt, tt) (ap (λ a. (a + (2 ^ 64 - 8)) % 2 ^ 64) (stack_is t i1 same1))
+      (λ b n2 i2 same2 later2 there.
+      stores_does may end follows (leaves (pushed t)) n2 i2 place 8 b k below v (sets_register 4 (Kept b) done) there (holds_later later2 held)
+      (sets_stack end (leaves (pushed t) then follows) t n2 i2 (Kept b) below done same2 there.below there.is (below_fits (register width.Quad rsp t))
+      (λ n3 i3 same3 later3. ends_does may place after fits table (pushed t) i3 at same3))))
     where
       fetched : IsStored width.Quad from ⊎ IsNumber width.Quad from → IsFetched width.Quad from
       fetched (inl is) = fetched_stored width.Quad from is
@@ -95,16 +95,16 @@ module _ (may : Permission) (table place after temps : ℕ) (fits : after < 2 ^ 
 
   -- what stands on the stack is read, and the stack is one value shorter
   pops_does : (end : IrEnd) (t : Thread) (s : IrState) (go : ℕ → Row) (rest : Formula → Lifting) → SameThread t s
-      → ((v : ℕ) → v < 2 ^ 64 → (n : ℕ) (j : IrState) → SameThread (popped t) j → Holds n j (temps + 1) v → Does may end (go v then Follows may table place after temps fits) (rest (Kept (temps + 1)) n) j)
-      → Does may end (reads may place (register width.Quad rsp t) 8 go then Follows may table place after temps fits) (pops place after rest temps) s
+      → ((v : ℕ) → v < 2 ^ 64 → (n : ℕ) (j : IrState) → SameThread (popped t) j → Holds n j (temps + 1) v → Does may end (go v then Follows may table) (rest (Kept (temps + 1)) n) j)
+      → Does may end (reads may place (register width.Quad rsp t) 8 go then Follows may table) (pops place after rest temps) s
   unfolding pops popped set
   pops_does end t s go rest same here =
-      let follows = Follows may table place after temps fits in
+      let follows = Follows may table in
       loads_does may end follows go t temps s place 8 (Register 4) (register width.Quad rsp t) (λ v. sets_register 4 (Operation ops.Add (Register 4) (Number 8)) (rest v)) same tt (stack_is t s same)
       (λ v fit n1 i1 same1 later1 held.
-        sets_stack end (go v then follows) t n1 i1 (Operation ops.Add (Register 4) (Number 8)) ((register width.Quad rsp t + 8) % 2 ^ 64) (rest (Kept (temps + 1))) same1 (tt, tt)
-        (ap (λ a. (a + 8) % 2 ^ 64) (stack_is t i1 same1)) (above_fits (register width.Quad rsp t))
-        (λ n2 i2 same2 later2. here v fit n2 i2 same2 (holds_later later2 held)))
+      sets_stack end (go v then follows) t n1 i1 (Operation ops.Add (Register 4) (Number 8)) ((register width.Quad rsp t + 8) % 2 ^ 64) (rest (Kept (temps + 1))) same1 (tt, tt)
+      (ap (λ a. (a + 8) % 2 ^ 64) (stack_is t i1 same1)) (above_fits (register width.Quad rsp t))
+      (λ n2 i2 same2 later2. here v fit n2 i2 same2 (holds_later later2 held)))
 
   pub pop_means : (to : Operand) → IsStored width.Quad to → Here (instr.Pop to)
   unfolding acts lifts pop_row popped set
@@ -122,18 +122,18 @@ module _ (may : Permission) (table place after temps : ℕ) (fits : after < 2 ^ 
   unfolding acts lifts leave_row leaves_frame set
   leave_means f t s at same =
       let end = ends.Goto after in
-      let follows = Follows may table place after temps fits in
+      let follows = Follows may table in
       let old = register width.Quad rbp t in
       let shorter = set width.Quad rsp ((old + 8) % 2 ^ 64) t in
       loads_does may end follows (λ v. leaves (set width.Quad rbp v shorter)) t temps s place 8 (Register 5) old (λ v. sets_register 4 (Operation ops.Add (Register 5) (Number 8)) (sets_register 5 v done)) same tt (frame_is t s same)
       (λ v fit n1 i1 same1 later1 held.
-        let tree = leaves (set width.Quad rbp v shorter) then follows in
-        sets_stack end tree t n1 i1 (Operation ops.Add (Register 5) (Number 8)) ((old + 8) % 2 ^ 64) (sets_register 5 (Kept (temps + 1)) done) same1 (tt, tt)
-        (ap (λ a. (a + 8) % 2 ^ 64) (frame_is t i1 same1)) (above_fits old)
-        (λ n2 i2 same2 later2.
-          let kept = holds_later later2 held in
-          sets_frame end tree shorter n2 i2 (Kept (temps + 1)) v done same2 kept.below kept.is fit
-          (λ n3 i3 same3 later3. ends_does may place after fits table (set width.Quad rbp v shorter) i3 at same3)))
+      let tree = leaves (set width.Quad rbp v shorter) then follows in
+      sets_stack end tree t n1 i1 (Operation ops.Add (Register 5) (Number 8)) ((old + 8) % 2 ^ 64) (sets_register 5 (Kept (temps + 1)) done) same1 (tt, tt)
+      (ap (λ a. (a + 8) % 2 ^ 64) (frame_is t i1 same1)) (above_fits old)
+      (λ n2 i2 same2 later2.
+      let kept = holds_later later2 held in
+      sets_frame end tree shorter n2 i2 (Kept (temps + 1)) v done same2 kept.below kept.is fit
+      (λ n3 i3 same3 later3. ends_does may place after fits table (set width.Quad rbp v shorter) i3 at same3)))
 
   -- instructions that do nothing
   pub nop_means : Here instr.Nop
@@ -152,7 +152,7 @@ module _ (may : Permission) (table place after temps : ℕ) (fits : after < 2 ^ 
   pub mfence_means : Here instr.Mfence
   unfolding acts lifts
   mfence_means f t s at same =
-      beside_fences placed_full 0 (SameLeft SameThread) (Follows may table place after temps fits) (λ k. ir_block no_cost may [] (ends.Goto after) k) 0 Mfence Fsc place 0 (leaves t) (goes s) refl
+      beside_fences placed_full 0 (SameLeft SameThread) (Follows may table) (λ k. ir_block no_cost may [] (ends.Goto after) k) 0 Mfence Fsc place 0 (leaves t) (goes s) refl
       (ends_does may place after fits table t s at same)
 
   pub ud2_means : Here instr.Ud2

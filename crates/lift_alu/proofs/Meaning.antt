@@ -20,7 +20,8 @@ use Rattle.limm_ir.specs.Blocks.{ir_block}
 use Rattle.lift_alu.specs.Built.{is_built}
 use Rattle.lift_alu.specs.Lifted.{lifts}
 use Rattle.lift_alu.specs.Meant.{SameThread, after, end_from, end_of}
-use Rattle.lift_alu.proofs.LiftedMoves.{Means, mov_means, lea_means, movzx_means, movsx_means, movsxd_means, setcc_means, cmovcc_means, widen_means, signfill_means, xchg_means}
+use Rattle.lift_alu.proofs.Instructions.{Means}
+use Rattle.lift_alu.proofs.LiftedMoves.{mov_means, lea_means, movzx_means, movsx_means, movsxd_means, setcc_means, cmovcc_means, widen_means, signfill_means, xchg_means}
 use Rattle.lift_alu.proofs.LiftedStack.{push_means, pop_means, leave_means, ret_means, nop_means, pause_means, endbr_means, mfence_means, ud2_means}
 use Rattle.lift_alu.proofs.LiftedArithmetic.{alu_means, test_means}
 use Rattle.lift_alu.proofs.LiftedSteps.{inc_means, dec_means, neg_means, not_means, xadd_means}
@@ -30,7 +31,7 @@ not_built : {A : Type 0} → false ≡ true → A
 not_built is = cc
 
 module _ (may : Permission) (table place next temps : ℕ) (fits : next < 2 ^ 64) where
-  each_means : (i : Instr) → IsFormed i → is_built i ≡ true → Means may table place next temps fits i
+  each_means : (i : Instr) → IsFormed i → is_built i ≡ true → Means may table place next temps i
   each_means (instr.Alu o w to from locked) formed built = alu_means may table place next temps fits o w to from locked built formed.0
   each_means (instr.Test w to from) formed built = test_means may table place next temps fits w to from formed
   each_means (instr.Xchg w to from locked) formed built = xchg_means may table place next temps fits w to from locked built formed
@@ -89,4 +90,4 @@ lifts_mean p temps formed built may table s i at same =
     let here = each_means may table s.at next temps (cut_fits (s.at + p.length)) p.instr formed built p.flow (record s { at = next }) i refl (same_behind s i next same) in
     beside_keeps placed_full sees-placed_full 0 (SameNext (SameLeft SameThread))
     (subst (λ a. Beside placed_full 0 (SameNext (SameLeft SameThread)) 0 (row_of may p.instr p.length p.flow s then goes_on table (x64_block may table []))
-      (ir_block no_cost may (lifts a ((a + p.length) % 2 ^ 64) p.instr temps) (end_from p.instr ((a + p.length) % 2 ^ 64) temps) i)) at here)
+    (ir_block no_cost may (lifts a ((a + p.length) % 2 ^ 64) p.instr temps) (end_from p.instr ((a + p.length) % 2 ^ 64) temps) i)) at here)

@@ -104,10 +104,10 @@ module _ (may : Permission) (end : IrEnd) where
   puts_does q s next i w r e v rest same is kept value_is go =
       let old = s.regs r.number in
       let here : value i (merged_formula w r.high (Register r.number) e) ≡ merged w r.high old v =
-          value_merged i w r.high (Register r.number) e (narrow w r is) (subst (λ k. k < 2 ^ 64) (sym (same.regs r.number is.number)) (same.fit r.number is.number)) (subst (λ k. k < 2 ^ bits w) (sym value_is) (low_below w v))
-          ∙ ap (λ k. merged w r.high k (value i e)) (same.regs r.number is.number)
-          ∙ ap (λ k. merged w r.high old k) value_is
-          ∙ merged-low w r.high old v in
+      value_merged i w r.high (Register r.number) e (narrow w r is) (subst (λ k. k < 2 ^ 64) (sym (same.regs r.number is.number)) (same.fit r.number is.number)) (subst (λ k. k < 2 ^ bits w) (sym value_is) (low_below w v))
+      ∙ ap (λ k. merged w r.high k (value i e)) (same.regs r.number is.number)
+      ∙ ap (λ k. merged w r.high old k) value_is
+      ∙ merged-low w r.high old v in
       sets_register_does may end q s next i r.number (merged_formula w r.high (Register r.number) e) (merged w r.high old v) rest same (below_merged next w r.high (Register r.number) e tt kept) here
       (merged_below w r.high old v (same.fit r.number is.number)) go
 
@@ -148,8 +148,8 @@ module _ (may : Permission) (place after : ℕ) (fits : after < 2 ^ 64) where
       (λ a. writes_there place after w (in_memory a) (Kept t) (puts_there place after w (in_memory a) (Kept t) done)) same
       (below_address next m after) (value_address_at s i m after at fits same is)
       (λ a next' i' same' later there.
-        stores_does may (ends.Goto after) (goes_on table (x64_block may table [])) (leaves s) next' i' place (bytes w) a t (address m s) v done there (holds_later later kept)
-        (ends_does table s i' at same'))
+      stores_does may (ends.Goto after) (goes_on table (x64_block may table [])) (leaves s) next' i' place (bytes w) a t (address m s) v done there (holds_later later kept)
+      (ends_does table s i' at same'))
   moves_does table w (operand.Imm n) s next i t v same is at kept fit = absurd is
 
   -- what the steps of a new value leave, in any later state
@@ -175,13 +175,13 @@ module _ (may : Permission) (place after : ℕ) (fits : after < 2 ^ 64) where
       (λ a. keeps (formula a) (λ n. flags a n (puts w r n done))) same
       (below_register next w r) (value_register s i w r same is)
       (λ ta n1 i1 same1 later1 old.
-        let one = computes v (register_below w r s) ta n1 i1 same1 later1 old in
-        keeps_does may end q s n1 i1 (formula (Kept ta)) (new v) (λ n. flags (Kept ta) n (puts w r n done)) same1 one.0 one.1
-        (λ tr n2 i2 same2 later2 changed.
-          flagged v (register_below w r s) ta tr n2 i2 q (puts w r (Kept tr) done) same2 (later_then later1 later2) (holds_later later2 old) changed
-          (λ n3 i3 same3 later3.
-            let result = holds_later later3 changed in
-            puts_ends table w r (after_thread v) n3 i3 (Kept tr) (new v) same3 is (stays v) result.below (result.is ∙ low_of_fit w (new v) one.2))))
+      let one = computes v (register_below w r s) ta n1 i1 same1 later1 old in
+      keeps_does may end q s n1 i1 (formula (Kept ta)) (new v) (λ n. flags (Kept ta) n (puts w r n done)) same1 one.0 one.1
+      (λ tr n2 i2 same2 later2 changed.
+      flagged v (register_below w r s) ta tr n2 i2 q (puts w r (Kept tr) done) same2 (later_then later1 later2) (holds_later later2 old) changed
+      (λ n3 i3 same3 later3.
+      let result = holds_later later3 changed in
+      puts_ends table w r (after_thread v) n3 i3 (Kept tr) (new v) same3 is (stays v) result.below (result.is ∙ low_of_fit w (new v) one.2))))
   changes_does table w (operand.Mem m) s next i formula flags new after_thread same is at stays computes flagged =
       let end = ends.Goto after in
       let f = goes_on table (x64_block may table []) in
@@ -190,15 +190,15 @@ module _ (may : Permission) (place after : ℕ) (fits : after < 2 ^ 64) where
       (λ p. reads_there place after w (in_memory p) (λ a. keeps (formula a) (λ n. writes_there place after w (in_memory p) n (flags a n (puts_there place after w (in_memory p) n done))))) same
       (below_address next m after) (value_address_at s i m after at fits same is)
       (λ tp n1 i1 same1 later1 there.
-        loads_does may end f (λ v. rows.stores may place w (operand.Mem m) s (new v) (after_thread v)) s n1 i1 place (bytes w) (Kept tp) place_of
-        (λ a. keeps (formula a) (λ n. writes_there place after w (InMemory tp) n (flags a n done))) same1 there.below there.is
-        (λ v lt n2 i2 same2 later2 old.
-          let fit = subst (λ k. v < k) (width_bytes w) lt in
-          let one = computes v fit _ n2 i2 same2 (later_then later1 later2) old in
-          keeps_does may end (rows.stores may place w (operand.Mem m) s (new v) (after_thread v) then f) s n2 i2 (formula (Kept (n1 + 0))) (new v)
-          (λ n. writes_there place after w (InMemory tp) n (flags (Kept (n1 + 0)) n done)) same2 one.0 one.1
-          (λ tr n3 i3 same3 later3 changed.
-            stores_does may end f (leaves (after_thread v)) n3 i3 place (bytes w) tp tr place_of (new v) (flags (Kept (n1 + 0)) (Kept tr) done) (holds_later (later_then later2 later3) there) changed
-            (flagged v fit _ tr n3 i3 (leaves (after_thread v) then f) done same3 (later_then (later_then later1 later2) later3) (holds_later later3 old) changed
-            (λ n4 i4 same4 later4. ends_does table (after_thread v) i4 (stays v) same4)))))
+      loads_does may end f (λ v. rows.stores may place w (operand.Mem m) s (new v) (after_thread v)) s n1 i1 place (bytes w) (Kept tp) place_of
+      (λ a. keeps (formula a) (λ n. writes_there place after w (InMemory tp) n (flags a n done))) same1 there.below there.is
+      (λ v lt n2 i2 same2 later2 old.
+      let fit = subst (λ k. v < k) (width_bytes w) lt in
+      let one = computes v fit _ n2 i2 same2 (later_then later1 later2) old in
+      keeps_does may end (rows.stores may place w (operand.Mem m) s (new v) (after_thread v) then f) s n2 i2 (formula (Kept (n1 + 0))) (new v)
+      (λ n. writes_there place after w (InMemory tp) n (flags (Kept (n1 + 0)) n done)) same2 one.0 one.1
+      (λ tr n3 i3 same3 later3 changed.
+      stores_does may end f (leaves (after_thread v)) n3 i3 place (bytes w) tp tr place_of (new v) (flags (Kept (n1 + 0)) (Kept tr) done) (holds_later (later_then later2 later3) there) changed
+      (flagged v fit _ tr n3 i3 (leaves (after_thread v) then f) done same3 (later_then (later_then later1 later2) later3) (holds_later later3 old) changed
+      (λ n4 i4 same4 later4. ends_does table (after_thread v) i4 (stays v) same4)))))
   changes_does table w (operand.Imm n) s next i formula flags new after_thread same is at stays computes flagged = absurd is

@@ -50,7 +50,10 @@ pub same_put : (s : Thread) (i : IrState) (r v w : ℕ) → w ≡ v → v < 2 ^ 
 same_put s i r v w is fit same = record {
   regs = λ n lt. put_same r w v i.regs s.regs n is (same.regs n lt);
   fit = λ n lt. put_fit r v (2 ^ 64) s.regs n fit (same.fit n lt);
-  cf = same.cf; zf = same.zf; sf = same.sf; of = same.of;
+  cf = same.cf;
+  zf = same.zf;
+  sf = same.sf;
+  of = same.of;
 }
 
 -- the state in which a flag has a number
