@@ -32,13 +32,16 @@ computed next e i = record i { temps = temps_behind next e i i.temps }
 abbrev with_temps : IrState → Bank → IrState
 with_temps i temps = record i { temps = temps }
 
+-- lists one behind the other, as they come from an operation
 three-append : (a b c d : List IrStep) → (a ++ (b ++ c)) ++ d ≡ a ++ (b ++ (c ++ d))
 three-append a b c d = simp append_assoc
 
+-- and from a choice
 four-append : (a b c d e : List IrStep) → (a ++ (b ++ (c ++ d))) ++ e ≡ a ++ (b ++ (c ++ (d ++ e)))
 four-append a b c d e = simp append_assoc
 
 module _ (may : Permission) where
+  -- steps behind those of a formula, from any temporaries on
   computes_behind : (next : ℕ) (e : Formula) (rest : List IrStep) (i : IrState) (temps : Bank)
       → ir_steps no_cost may (computes next e ++ rest) (with_temps i temps) ≡ ir_steps no_cost may rest (with_temps i (temps_behind next e i temps))
   computes_behind next (Kept t) rest i temps = refl
@@ -73,6 +76,7 @@ IsKeptBelow next (Flag f) = Unit {0}
 IsKeptBelow next (Operation op a b) = IsKeptBelow next a × IsKeptBelow next b
 IsKeptBelow next (Choice c a b) = IsKeptBelow next c × (IsKeptBelow next a × IsKeptBelow next b)
 
+-- what was set before a number was set before a later one
 pub kept_later : (next later : ℕ) (e : Formula) → next ≤ later → IsKeptBelow next e → IsKeptBelow later e
 kept_later next later (Kept t) le kept = omega (arith, le, kept)
 kept_later next later (Number n) le kept = tt

@@ -29,6 +29,7 @@ pub record CarryFlag (next : ℕ) (i : IrState) (carry : Formula) (before after 
   pub kept : IsKeptBelow next carry
   pub cf : (n : ℕ) (j : IrState) → IsLater next i n j → j.flags 0 ≡ bit before → value j carry ≡ bit after
 
+-- three flags that were set one by one, and CF as it was
 same_flags : (s : Thread) (j : IrState) (f : Flags) → f.cf ≡ s.flags.cf → SameThread (with_sf f.sf (with_zf f.zf (with_of f.of s))) j → SameThread (with_flags f s) j
 same_flags s j f is same = record { regs = same.regs; fit = same.fit; cf = same.cf ∙ ap bit (sym is); zf = same.zf; sf = same.sf; of = same.of }
 

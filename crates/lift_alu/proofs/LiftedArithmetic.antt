@@ -52,10 +52,12 @@ pub record Both (w : Width) (n : ℕ) (j : IrState) (ka kb a b : ℕ) : Type 0 w
   pub fit : a < 2 ^ bits w
   pub fits : b < 2 ^ bits w
 
+-- and still are in a later state
 pub both_later : (w : Width) (n : ℕ) (j : IrState) (ka kb a b m : ℕ) (k : IrState) → IsLater n j m k → Both w n j ka kb a b → Both w m k ka kb a b
 both_later w n j ka kb a b m k later both = record { first = holds_later later both.first; second = holds_later later both.second; fit = both.fit; fits = both.fits }
 
 module _ (place after : ℕ) (o : AluOp) (w : Width) where
+  -- the formulas of an operation keep the two values, and its result
   pub below_result : (n ka kb : ℕ) → ka < n → kb < n → IsKeptBelow n (result place after o w (Kept ka) (Kept kb))
   below_result n ka kb first second = by o
     where
@@ -69,6 +71,7 @@ module _ (place after : ℕ) (o : AluOp) (w : Width) where
       by op.Xor = (first, second)
       by op.Cmp = below_clean n w (Operation ops.Sub (Kept ka) (Kept kb)) (first, second)
 
+  -- that of OF
   below_overflow : (n ka kb kr : ℕ) → ka < n → kb < n → kr < n → IsKeptBelow n (overflow_of o w (Kept ka) (Kept kb) (Kept kr))
   below_overflow n ka kb kr first second third = by o
     where
@@ -88,6 +91,7 @@ module _ (place after : ℕ) (o : AluOp) (w : Width) where
       by op.Xor = tt
       by op.Cmp = difference
 
+  -- and of CF
   below_carry : (n ka kb kr : ℕ) → ka < n → kb < n → kr < n → IsKeptBelow n (carry_of o (Kept ka) (Kept kb) (Kept kr))
   below_carry n ka kb kr first second third = by o
     where
@@ -122,12 +126,14 @@ module _ (place after : ℕ) (o : AluOp) (w : Width) where
 
     -- the two values in a state, and what the operation leaves of them
     module _ (n : ℕ) (j : IrState) (both : Both w n j ka kb a b) where
+      -- both values fit their width
       first_fits : j.temps ka < 2 ^ bits w
       first_fits = subst (λ k. k < 2 ^ bits w) (sym both.first.is) both.fit
 
       second_fits : j.temps kb < 2 ^ bits w
       second_fits = subst (λ k. k < 2 ^ bits w) (sym both.second.is) both.fits
 
+      -- the result of the operation
       pub result_here : HasFlags f j → value j (result place after o w (Kept ka) (Kept kb)) ≡ Leaves.value
       result_here flags =
           by_values (λ x y. value j (result place after o w (Kept ka) (Kept kb)) ≡ (alu_outcome o (bits w) x y f).value) both.first.is both.second.is
@@ -137,21 +143,25 @@ module _ (place after : ℕ) (o : AluOp) (w : Width) where
       same_result : (kr : ℕ) → j.temps kr ≡ Leaves.value → j.temps kr ≡ (alu_outcome o (bits w) (j.temps ka) (j.temps kb) f).value
       same_result kr is = by_values (λ x y. j.temps kr ≡ (alu_outcome o (bits w) x y f).value) (sym both.first.is) (sym both.second.is) is
 
+      -- OF of the result
       overflow_here : (kr : ℕ) → j.temps kr ≡ Leaves.value → value j (overflow_of o w (Kept ka) (Kept kb) (Kept kr)) ≡ bit Leaves.flags.of
       overflow_here kr is =
           by_values (λ x y. value j (overflow_of o w (Kept ka) (Kept kb) (Kept kr)) ≡ bit (alu_outcome o (bits w) x y f).flags.of) both.first.is both.second.is
           (value_overflow place after o w f j (Kept ka) (Kept kb) (Kept kr) first_fits second_fits (same_result kr is))
 
+      -- ZF
       zero_here : (kr : ℕ) → j.temps kr ≡ Leaves.value → value j (Operation ops.Eq (Kept kr) (Number 0)) ≡ bit Leaves.flags.zf
       zero_here kr is =
           by_values (λ x y. value j (Operation ops.Eq (Kept kr) (Number 0)) ≡ bit (alu_outcome o (bits w) x y f).flags.zf) both.first.is both.second.is
           (value_zero place after o w f j (Kept ka) (Kept kb) (Kept kr) (same_result kr is))
 
+      -- SF
       sign_here : (kr : ℕ) → j.temps kr ≡ Leaves.value → value j (top w (Kept kr)) ≡ bit Leaves.flags.sf
       sign_here kr is =
           by_values (λ x y. value j (top w (Kept kr)) ≡ bit (alu_outcome o (bits w) x y f).flags.sf) both.first.is both.second.is
           (value_sign place after o w f j (Kept ka) (Kept kb) (Kept kr) first_fits second_fits (same_result kr is))
 
+      -- and CF, where it is still the one before
       carry_here : (kr : ℕ) → j.temps kr ≡ Leaves.value → j.flags 0 ≡ bit f.cf → value j (carry_of o (Kept ka) (Kept kb) (Kept kr)) ≡ bit Leaves.flags.cf
       carry_here kr is carry =
           by_values (λ x y. value j (carry_of o (Kept ka) (Kept kb) (Kept kr)) ≡ bit (alu_outcome o (bits w) x y f).flags.cf) both.first.is both.second.is
@@ -167,6 +177,7 @@ module _ (place after : ℕ) (o : AluOp) (w : Width) where
       sf = λ m k later. sign_here m k (both_later w n j ka kb a b m k later both) kr (holds_later later holds).is;
     }
 
+    -- and that of the carry
     carry_flag : (n : ℕ) (j : IrState) (kr : ℕ) → Both w n j ka kb a b → Holds n j kr Leaves.value → CarryFlag n j (carry_of o (Kept ka) (Kept kb) (Kept kr)) f.cf Leaves.flags.cf
     carry_flag n j kr both holds = record {
       kept = below_carry n ka kb kr both.first.below both.second.below holds.below;
@@ -183,6 +194,7 @@ module _ (place after : ℕ) (o : AluOp) (w : Width) where
       (result_flags s.flags ka kb a b n j kr both holds) (carry_flag s.flags ka kb a b n j kr both holds) go)
 
 module _ (may : Permission) (table place after temps : ℕ) (fits : after < 2 ^ 64) where
+  -- an instruction of this place
   abbrev Here : Instr → Type 0
   Here i = Means may table place after temps i
 
@@ -228,6 +240,7 @@ module _ (may : Permission) (table place after temps : ℕ) (fits : after < 2 ^ 
       let both : Both w n2 i2 ka kb a b = record { first = holds2; second = holds_later later2 holds1; fit = fit; fits = fit' } in
       flags_does place after o w may end q t n2 i2 ka kb kr a b rest same2 both holds3 go))
 
+  -- ADD, OR, ADC, SBB, AND, SUB, XOR and CMP
   pub alu_means : (o : AluOp) (w : Width) (to from : Operand) (locked : Bool) → not locked ≡ true → ArePair w to from → Here (instr.Alu o w to from locked)
   unfolding acts lifts alu_row
   alu_means o w to from true built pair f t s at same = not_locked true built refl
@@ -240,6 +253,7 @@ module _ (may : Permission) (table place after temps : ℕ) (fits : after < 2 ^ 
   alu_means op.Xor w to from false built pair f t s at same = combine_does op.Xor w to from pair t s at same
   alu_means op.Cmp w to from false built pair f t s at same = compare_does op.Cmp w to from pair t s at same
 
+  -- TEST
   pub test_means : (w : Width) (to from : Operand) → ArePair w to from → Here (instr.Test w to from)
   unfolding acts lifts
   test_means w to from pair f t s at same = compare_does op.And w to from pair t s at same

@@ -65,15 +65,18 @@ upper_register width.Long = low_register width.Long (upper width.Long) refl (ome
 upper_register width.Quad = low_register width.Quad (upper width.Quad) refl (omega arith)
 
 module _ (may : Permission) (table place after temps : ℕ) (fits : after < 2 ^ 64) where
+  -- an instruction of this place
   abbrev Here : Instr → Type 0
   Here i = Means may table place after temps i
 
+  -- MOV
   pub mov_means : (w : Width) (to from : Operand) → ArePair w to from → Here (instr.Mov w to from)
   unfolding acts lifts
   mov_means w to from pair f t s at same =
       fetches_does may place after fits (Follows may table) (ends.Goto after) w from t temps s (λ v. rows.stores may place w to t v t) (λ v. moves place after w to v done) same (pair_fetched w to from pair) at
       (λ v fit k n j same' later holds. moves_does may place after fits table w to t n j k v same' (pair_stored w to from pair) at holds fit)
 
+  -- LEA
   pub lea_means : (w : Width) (to from : Operand) → (w ≢ width.Byte) × (IsInRegister w to × IsInMemory from) → Here (instr.Lea w to from)
   unfolding acts lifts rows.puts address_of takes_address puts_operand
   lea_means w (operand.Reg r) (operand.Mem m) formed f t s at same =
@@ -99,24 +102,28 @@ module _ (may : Permission) (table place after temps : ℕ) (fits : after < 2 ^ 
   fetched_put w v (operand.Mem r) from formula new is stored computes t s at same = absurd is
   fetched_put w v (operand.Imm r) from formula new is stored computes t s at same = absurd is
 
+  -- MOVZX
   pub movzx_means : (w v : Width) (to from : Operand) → (w ≢ width.Byte) × (IsNarrow v × (IsInRegister w to × IsStored v from)) → Here (instr.MovZx w v to from)
   unfolding acts lifts
   movzx_means w v to from formed f t s at same =
       fetched_put w v to from (λ a. a) (λ a. a) formed.1.1.0 formed.1.1.1
       (λ a fit k n j holds. (holds.below, holds.is ∙ low_of_fit w a (narrow_fits w v a formed.0 formed.1.0 fit))) t s at same
 
+  -- MOVSX
   pub movsx_means : (w v : Width) (to from : Operand) → (w ≢ width.Byte) × (IsNarrow v × (IsInRegister w to × IsStored v from)) → Here (instr.MovSx w v to from)
   unfolding acts lifts
   movsx_means w v to from formed f t s at same =
       fetched_put w v to from (λ a. clean w (with_sign v a)) (λ a. sign_extend (bits w) (bits v) a) formed.1.1.0 formed.1.1.1
       (λ a fit k n j holds. (below_clean n w (with_sign v (Kept k)) (below_with_sign n v (Kept k) holds.below), value_extended j w v (Kept k) a holds.is fit)) t s at same
 
+  -- MOVSXD
   pub movsxd_means : (to from : Operand) → IsInRegister width.Quad to × IsStored width.Long from → Here (instr.MovSxd to from)
   unfolding acts lifts clean
   movsxd_means to from formed f t s at same =
       fetched_put width.Quad width.Long to from (λ a. with_sign width.Long a) (λ a. sign_extend 64 32 a) formed.0 formed.1
       (λ a fit k n j holds. (below_with_sign n width.Long (Kept k) holds.below, value_extended j width.Quad width.Long (Kept k) a holds.is fit)) t s at same
 
+  -- SETcc
   pub setcc_means : (c : Cond) (to : Operand) → IsCondition c × IsStored width.Byte to → Here (instr.SetCc c to)
   unfolding acts lifts
   setcc_means c to formed f t s at same =
@@ -126,6 +133,7 @@ module _ (may : Permission) (table place after temps : ℕ) (fits : after < 2 ^ 
       (below_condition temps c.code) (value_condition c t.flags s formed.0 (has_flags t s same))
       (λ k n j same' later holds. moves_does may place after fits table width.Byte to t n j k v same' formed.1 at holds below)
 
+  -- CMOVcc
   pub cmovcc_means : (c : Cond) (w : Width) (to from : Operand) → IsCondition c × ((w ≢ width.Byte) × (IsInRegister w to × IsStored w from)) → Here (instr.CmovCc c w to from)
   unfolding acts lifts rows.puts holds chooses
   cmovcc_means c w (operand.Reg r) from formed f t s at same =
@@ -146,6 +154,7 @@ module _ (may : Permission) (table place after temps : ℕ) (fits : after < 2 ^ 
   cmovcc_means c w (operand.Mem r) from formed f t s at same = absurd formed.1.1.0
   cmovcc_means c w (operand.Imm r) from formed f t s at same = absurd formed.1.1.0
 
+  -- CBW, CWDE and CDQE
   pub widen_means : (w : Width) → Here (instr.Widen w)
   unfolding acts lifts
   widen_means w f t s at same =
@@ -155,6 +164,7 @@ module _ (may : Permission) (table place after temps : ℕ) (fits : after < 2 ^ 
       (below_clean temps w (with_sign v (register_formula v rax)) (below_with_sign temps v (register_formula v rax) (below_register temps v rax)))
       (value_extended s w v (register_formula v rax) a (value_register t s v rax same (low_register v rax refl (omega arith))) (register_below v rax t))
 
+  -- CWD, CDQ and CQO
   pub signfill_means : (w : Width) → w ≢ width.Byte → Here (instr.SignFill w)
   unfolding acts lifts
   signfill_means w wide f t s at same =
@@ -163,6 +173,7 @@ module _ (may : Permission) (table place after temps : ℕ) (fits : after < 2 ^ 
       (below_clean temps w (Operation ops.Sar (with_sign w (register_formula w rax)) (Number 63)) (below_with_sign temps w (register_formula w rax) (below_register temps w rax), tt))
       (value_filled s w (register_formula w rax) a (value_register t s w rax same (low_register w rax refl (omega arith))) (register_below w rax t))
 
+  -- XCHG of two registers
   pub xchg_means : (w : Width) (to from : Operand) (locked : Bool) → not locked ≡ true → IsStored w to × (IsInRegister w from × (locked ≡ is_in_memory to)) → Here (instr.Xchg w to from locked)
   unfolding acts lifts rows.xchg_row rows.changes rows.fetches rows.stores rows.puts holds exchanges puts_operand set
   xchg_means w (operand.Reg r) (operand.Reg q) false built formed f t s at same =

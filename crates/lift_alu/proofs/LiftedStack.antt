@@ -37,6 +37,7 @@ use Rattle.lift_alu.proofs.Rules.{Does, Later, Holds, holds_later, keeps_does, l
 use Rattle.lift_alu.proofs.OperandRules.{IsFetched, fetched_stored, fetched_number, low_of_fit, fetches_does, moves_does, ends_does, puts_does}
 use Rattle.lift_alu.proofs.Instructions.{low_register, Follows, Means}
 
+-- RSP and RBP are registers
 is_rsp : IsRegister width.Quad rsp
 is_rsp = low_register width.Quad rsp refl (omega arith)
 
@@ -48,10 +49,12 @@ stack_is : (t : Thread) (s : IrState) → SameThread t s → s.regs 4 ≡ regist
 unfolding register_formula clean
 stack_is t s same = value_register t s width.Quad rsp same is_rsp
 
+-- and the frame
 frame_is : (t : Thread) (s : IrState) → SameThread t s → s.regs 5 ≡ register width.Quad rbp t
 unfolding register_formula clean
 frame_is t s same = value_register t s width.Quad rbp same is_rbp
 
+-- addresses of the stack fit
 above_fits : (a : ℕ) → (a + 8) % 2 ^ 64 < 2 ^ 64
 above_fits a = omega arith
 
@@ -59,6 +62,7 @@ below_fits : (a : ℕ) → (a + (2 ^ 64 - 8)) % 2 ^ 64 < 2 ^ 64
 below_fits a = omega arith
 
 module _ (may : Permission) (table place after temps : ℕ) (fits : after < 2 ^ 64) where
+  -- an instruction of this place
   abbrev Here : Instr → Type 0
   Here i = Means may table place after temps i
 
@@ -68,11 +72,13 @@ module _ (may : Permission) (table place after temps : ℕ) (fits : after < 2 ^ 
   unfolding puts merged_formula
   sets_stack end q t n j e v rest same kept is fit go = puts_does may end q t n j width.Quad rsp e v rest same is_rsp kept (is ∙ low_of_fit width.Quad v fit) go
 
+  -- and the frame too
   sets_frame : (end : IrEnd) (q : Tree (Next (Left Thread))) (t : Thread) (n : ℕ) (j : IrState) (e : Formula) (v : ℕ) (rest : Lifting) → SameThread t j → IsKeptBelow n e → value j e ≡ v → v < 2 ^ 64
       → Later may end q (set width.Quad rbp v t) n j rest → Does may end q (sets_register 5 e rest n) j
   unfolding puts merged_formula
   sets_frame end q t n j e v rest same kept is fit go = puts_does may end q t n j width.Quad rbp e v rest same is_rbp kept (is ∙ low_of_fit width.Quad v fit) go
 
+  -- PUSH
   pub push_means : (from : Operand) → IsStored width.Quad from ⊎ IsNumber width.Quad from → Here (instr.Push from)
   unfolding acts lifts push_row pushes below_stack pushed set
   push_means from formed f t s at same =
@@ -106,18 +112,21 @@ module _ (may : Permission) (table place after temps : ℕ) (fits : after < 2 ^ 
       (ap (λ a. (a + 8) % 2 ^ 64) (stack_is t i1 same1)) (above_fits (register width.Quad rsp t))
       (λ n2 i2 same2 later2. here v fit n2 i2 same2 (holds_later later2 held)))
 
+  -- POP
   pub pop_means : (to : Operand) → IsStored width.Quad to → Here (instr.Pop to)
   unfolding acts lifts pop_row popped set
   pop_means to formed f t s at same =
       pops_does (ends.Goto after) t s (λ v. rows.stores may place width.Quad to (popped t) v (popped t)) (λ v. moves place after width.Quad to v done) same
       (λ v fit n j same' held. moves_does may place after fits table width.Quad to (popped t) n j (temps + 1) v same' formed at held fit)
 
+  -- RET
   pub ret_means : Here instr.Ret
   unfolding acts lifts returns
   ret_means f t s at same =
       pops_does (ends.Return (temp (temps + 1))) t s (λ v. goes (Return (popped t) v)) (λ v. done) same
       (λ v fit n j same' held. give (both-go (ap ToReturn held.is, same')))
 
+  -- LEAVE
   pub leave_means : Here instr.Leave
   unfolding acts lifts leave_row leaves_frame set
   leave_means f t s at same =
@@ -155,6 +164,7 @@ module _ (may : Permission) (table place after temps : ℕ) (fits : after < 2 ^ 
       beside_fences placed_full 0 (SameLeft SameThread) (Follows may table) (λ k. ir_block no_cost may [] (ends.Goto after) k) 0 Mfence Fsc place 0 (leaves t) (goes s) refl
       (ends_does may place after fits table t s at same)
 
+  -- an instruction that ends the thread
   pub ud2_means : Here instr.Ud2
   unfolding acts lifts
   ud2_means f t s at same = give both-stop

@@ -40,6 +40,7 @@ use Rattle.lift_alu.proofs.OperandRules.{low_of_fit, low_below, fetches_does, en
 use Rattle.lift_alu.proofs.Instructions.{has_flags, not_locked, Follows, Means}
 use Rattle.lift_alu.proofs.LiftedArithmetic.{Both, both_later, below_result, result_here, flags_does}
 
+-- results fit their width
 inc_below : (w : Width) (a : ℕ) (f : Flags) → (inc_outcome (bits w) a f).value < 2 ^ bits w
 unfolding inc_outcome sum_outcome outcome
 inc_below w a f = low_below w (a + 1 + 0)
@@ -59,6 +60,7 @@ not_below width.Long a = omega arith
 not_below width.Quad a = omega arith
 
 module _ (may : Permission) (table place after temps : ℕ) (fits : after < 2 ^ 64) where
+  -- an instruction of this place
   abbrev Here : Instr → Type 0
   Here i = Means may table place after temps i
 
@@ -77,11 +79,13 @@ module _ (may : Permission) (table place after temps : ℕ) (fits : after < 2 ^ 
     -- INC and DEC
     module _ (overflow : Formula → Formula → Formula) (kept_overflow : (n ka kr : ℕ) → ka < n → kr < n → IsKeptBelow n (overflow (Kept ka) (Kept kr)))
         (flags : (j : IrState) (ka kr : ℕ) → j.temps ka < 2 ^ bits w → j.temps kr ≡ (out (j.temps ka)).value → StepsOutcome w t.flags j (Kept ka) (Kept kr) (overflow (Kept ka) (Kept kr)) (out (j.temps ka)).flags) where
+      -- the flags, where the operand's value is known
       steps_here : (a : ℕ) → a < 2 ^ bits w → (ka kr n : ℕ) (j : IrState) → Holds n j ka a → Holds n j kr (out a).value → StepsOutcome w t.flags j (Kept ka) (Kept kr) (overflow (Kept ka) (Kept kr)) (out a).flags
       steps_here a fit ka kr n j old changed =
           subst (λ x. StepsOutcome w t.flags j (Kept ka) (Kept kr) (overflow (Kept ka) (Kept kr)) (out x).flags) old.is
           (flags j ka kr (subst (λ x. x < 2 ^ bits w) (sym old.is) fit) (subst (λ x. j.temps kr ≡ (out x).value) (sym old.is) changed.is))
 
+      -- their formulas in every later state
       step_flags : (a : ℕ) → a < 2 ^ bits w → (ka kr n : ℕ) (j : IrState) → Holds n j ka a → Holds n j kr (out a).value → ResultFlags n j w (overflow (Kept ka) (Kept kr)) (Kept kr) (out a).flags
       step_flags a fit ka kr n j old changed = record {
         kept_overflow = kept_overflow n ka kr old.below changed.below;
@@ -91,6 +95,7 @@ module _ (may : Permission) (table place after temps : ℕ) (fits : after < 2 ^ 
         sf = λ m k later. (steps_here a fit ka kr m k (holds_later later old) (holds_later later changed)).sf;
       }
 
+      -- the operand is read, changed and written, and the flags are set
       step_does : Does may (ends.Goto after) (becomes may place false w to t out then Follows may table)
           (lifted.changes place after w to formula (λ a r. sets_result w (overflow a r) r) temps) s
       step_does =
@@ -99,6 +104,7 @@ module _ (may : Permission) (table place after temps : ℕ) (fits : after < 2 ^ 
           (λ a fit ka kr n j q rest same' later old changed go.
           sets_result_does may (ends.Goto after) q t n j w (overflow (Kept ka) (Kept kr)) (Kept kr) (out a).flags rest same' (step_flags a fit ka kr n j old changed) (steps_here a fit ka kr n j old changed).cf go)
 
+  -- INC
   pub inc_means : (w : Width) (to : Operand) (locked : Bool) → not locked ≡ true → IsStored w to → Here (instr.Inc w to locked)
   unfolding acts lifts
   inc_means w to true built is f t s at same = not_locked true built refl
@@ -107,6 +113,7 @@ module _ (may : Permission) (table place after temps : ℕ) (fits : after < 2 ^ 
       (λ n k lt. below_clean n w (Operation ops.Add (Kept k) (Number 1)) (lt, tt)) (λ j k fit. value_inc w t.flags j (Kept k) fit)
       (λ a r. sum_overflow w a (Number 1) r) (λ n ka kr first second. (((first, second), (tt, second)), tt)) (λ j ka kr fit result. flags_inc w t.flags j (Kept ka) (Kept kr) fit result)
 
+  -- DEC
   pub dec_means : (w : Width) (to : Operand) (locked : Bool) → not locked ≡ true → IsStored w to → Here (instr.Dec w to locked)
   unfolding acts lifts
   dec_means w to true built is f t s at same = not_locked true built refl
@@ -121,6 +128,7 @@ module _ (may : Permission) (table place after temps : ℕ) (fits : after < 2 ^ 
       subst (λ x. NegOutcome w j (Kept ka) (Kept kr) (neg_outcome (bits w) x).flags) old.is
       (flags_neg w j (Kept ka) (Kept kr) (subst (λ x. x < 2 ^ bits w) (sym old.is) fit) (subst (λ x. j.temps kr ≡ (neg_outcome (bits w) x).value) (sym old.is) changed.is))
 
+  -- and their formulas in every later state
   neg_flags : (w : Width) (a : ℕ) → a < 2 ^ bits w → (ka kr n : ℕ) (j : IrState) → Holds n j ka a → Holds n j kr (neg_outcome (bits w) a).value
       → ResultFlags n j w (top w (Operation ops.And (Kept ka) (Kept kr))) (Kept kr) (neg_outcome (bits w) a).flags
   neg_flags w a fit ka kr n j old changed = record {
@@ -131,6 +139,7 @@ module _ (may : Permission) (table place after temps : ℕ) (fits : after < 2 ^ 
     sf = λ m k later. (neg_here w a fit ka kr m k (holds_later later old) (holds_later later changed)).sf;
   }
 
+  -- NEG
   pub neg_means : (w : Width) (to : Operand) → IsStored w to → Here (instr.Neg w to)
   unfolding acts lifts
   neg_means w to is f t s at same =
@@ -144,6 +153,7 @@ module _ (may : Permission) (table place after temps : ℕ) (fits : after < 2 ^ 
       sets_flags_does may (ends.Goto after) q t n j w (top w (Operation ops.And (Kept ka) (Kept kr))) (borrow (Number 0) (Kept ka)) (Kept kr) (out a).flags rest same' (neg_flags w a fit ka kr n j old changed)
       (record { kept = (tt, old.below); cf = λ m k later carry. (neg_here w a fit ka kr m k (holds_later later old) (holds_later later changed)).cf }) go)
 
+  -- NOT
   pub not_means : (w : Width) (to : Operand) (locked : Bool) → not locked ≡ true → IsStored w to → Here (instr.Not w to locked)
   unfolding acts lifts
   not_means w to true built is f t s at same = not_locked true built refl
@@ -156,6 +166,7 @@ module _ (may : Permission) (table place after temps : ℕ) (fits : after < 2 ^ 
       ))
       (λ a fit ka kr n j q rest same' later old changed go. go n j same' (record { le = omega arith; temps = λ t lt. refl }))
 
+  -- XADD of two registers
   pub xadd_means : (w : Width) (to from : Operand) (locked : Bool) → not locked ≡ true → IsStored w to × (IsInRegister w from × (locked ≡ is_in_memory to)) → Here (instr.Xadd w to from locked)
   unfolding acts lifts xadd_row rows.changes rows.fetches rows.stores rows.puts holds adds_exchanged puts_operand set
   xadd_means w (operand.Reg r) (operand.Reg q) false built formed f t s at same =

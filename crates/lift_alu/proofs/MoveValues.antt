@@ -20,18 +20,21 @@ use Rattle.lift_alu.specs.Operands.{clean, with_sign}
 use Rattle.lift_alu.proofs.OperandValues.{value_clean, value_with_sign}
 use Rattle.lift_alu.proofs.OperandRules.{low_of_fit}
 
+-- widths in bits
 pub is_width : (w : Width) → IsWidth (bits w)
 is_width width.Byte = inl refl
 is_width width.Word = inr (inl refl)
 is_width width.Long = inr (inr (inl refl))
 is_width width.Quad = inr (inr (inr refl))
 
+-- some bits
 pub width_some : (w : Width) → 0 < bits w
 width_some width.Byte = omega arith
 width_some width.Word = omega arith
 width_some width.Long = omega arith
 width_some width.Quad = omega arith
 
+-- and at most 64
 pub width_most : (w : Width) → bits w ≤ 64
 width_most width.Byte = omega arith
 width_most width.Word = omega arith
@@ -52,6 +55,7 @@ fills : (W a : ℕ) → IsWidth W → a < 2 ^ W → low_bits W (int_div_euclid (
 unfolding signed low_bits top_bit filled
 fills W a width fit = grind (arith, nat_tests, ints)
 
+-- copies of the sign fit the width
 filled_below : (W a : ℕ) → IsWidth W → filled W a < 2 ^ W
 unfolding filled
 filled_below W a width = by (top_bit W a)

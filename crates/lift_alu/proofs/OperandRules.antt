@@ -36,16 +36,19 @@ IsFetched w (operand.Reg r) = IsRegister w r
 IsFetched w (operand.Mem m) = IsMemory m
 IsFetched w (operand.Imm n) = n < 2 ^ bits w
 
+-- a register or memory can be fetched
 pub fetched_stored : (w : Width) (o : Operand) → IsStored w o → IsFetched w o
 fetched_stored w (operand.Reg r) is = is
 fetched_stored w (operand.Mem m) is = is
 fetched_stored w (operand.Imm n) is = absurd is
 
+-- a register is a register or memory
 pub stored_register : (w : Width) (o : Operand) → IsInRegister w o → IsStored w o
 stored_register w (operand.Reg r) is = is
 stored_register w (operand.Mem m) is = absurd is
 stored_register w (operand.Imm n) is = absurd is
 
+-- a number can be fetched
 pub fetched_number : (w : Width) (o : Operand) → IsNumber w o → IsFetched w o
 fetched_number w (operand.Reg r) is = absurd is
 fetched_number w (operand.Mem m) is = absurd is
@@ -57,6 +60,7 @@ pair_stored w to from (inl both) = both.0
 pair_stored w to from (inr (inl both)) = stored_register w to both.0
 pair_stored w to from (inr (inr both)) = both.0
 
+-- of which the second can be fetched
 pub pair_fetched : (w : Width) (to from : Operand) → ArePair w to from → IsFetched w from
 pair_fetched w to from (inl both) = fetched_stored w from (stored_register w from both.1)
 pair_fetched w to from (inr (inl both)) = fetched_stored w from both.1
@@ -69,6 +73,7 @@ width_bytes width.Word = refl
 width_bytes width.Long = refl
 width_bytes width.Quad = refl
 
+-- a width is at most 64 bits
 pub quad_most : (w : Width) → 2 ^ bits w ≤ 2 ^ 64
 quad_most width.Byte = omega arith
 quad_most width.Word = omega arith
@@ -82,12 +87,14 @@ low_of_fit width.Word v fit = omega (arith, fit)
 low_of_fit width.Long v fit = omega (arith, fit)
 low_of_fit width.Quad v fit = omega (arith, fit)
 
+-- low bits fit the width
 pub low_below : (w : Width) (v : ℕ) → v % 2 ^ bits w < 2 ^ bits w
 low_below width.Byte v = omega arith
 low_below width.Word v = omega arith
 low_below width.Long v = omega arith
 low_below width.Quad v = omega arith
 
+-- a high byte has 8 bits
 narrow : (w : Width) (r : Reg) → IsRegister w r → r.high ≡ true → w ≡ width.Byte
 narrow w r is high = (is.high high).0
 
@@ -98,6 +105,7 @@ value_address_at s i m after at fit same is =
 
 -- a register gets a value at a width
 module _ (may : Permission) (end : IrEnd) where
+  -- the thread after it has the value too
   pub puts_does : (q : Tree (Next (Left Thread))) (s : Thread) (next : ℕ) (i : IrState) (w : Width) (r : Reg) (e : Formula) (v : ℕ) (rest : Lifting) → SameThread s i → IsRegister w r → IsKeptBelow next e
       → value i e ≡ v % 2 ^ bits w → Later may end q (set w r v s) next i rest → Does may end q (puts w r e rest next) i
   unfolding puts set

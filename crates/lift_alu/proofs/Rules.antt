@@ -32,12 +32,15 @@ pub record Holds (next : ℕ) (i : IrState) (t v : ℕ) : Type 0 where
   pub below : t < next
   pub is : i.temps t ≡ v
 
+-- what is kept is still kept in a later state
 pub holds_later : {next : ℕ} {i : IrState} {next' : ℕ} {i' : IrState} {t v : ℕ} → IsLater next i next' i' → Holds next i t v → Holds next' i' t v
 holds_later later holds = record { below = omega (arith, later.le, holds.below); is = later.temps _ holds.below ∙ holds.is }
 
+-- a state is later than itself
 pub later_same : (next : ℕ) (i : IrState) → IsLater next i next i
 later_same next i = record { le = omega arith; temps = λ t lt. refl }
 
+-- and later than a later one is later
 pub later_then : {next : ℕ} {i : IrState} {next' : ℕ} {i' : IrState} {next'' : ℕ} {i'' : IrState} → IsLater next i next' i' → IsLater next' i' next'' i'' → IsLater next i next'' i''
 later_then one two = record { le = omega (arith, one.le, two.le); temps = λ t lt. two.temps t (omega (arith, one.le, lt)) ∙ one.temps t lt }
 
@@ -64,15 +67,19 @@ flagged f v i = record i { flags = put f v i.flags }
 abbrev pub with_of : Bool → Thread → Thread
 with_of b s = record s { flags = record s.flags { of = b } }
 
+-- ZF is another
 abbrev pub with_zf : Bool → Thread → Thread
 with_zf b s = record s { flags = record s.flags { zf = b } }
 
+-- SF is another
 abbrev pub with_sf : Bool → Thread → Thread
 with_sf b s = record s { flags = record s.flags { sf = b } }
 
+-- CF is another
 abbrev pub with_cf : Bool → Thread → Thread
 with_cf b s = record s { flags = record s.flags { cf = b } }
 
+-- a flag is set on both sides
 pub same_of : (s : Thread) (i : IrState) (b : Bool) (v : ℕ) → v ≡ bit b → SameThread s i → SameThread (with_of b s) (flagged 3 v i)
 same_of s i b v is same = record { regs = same.regs; fit = same.fit; cf = same.cf; zf = same.zf; sf = same.sf; of = is }
 
@@ -89,6 +96,7 @@ same_cf s i b v is same = record { regs = same.regs; fit = same.fit; cf = is; zf
 later_computed : (next : ℕ) (e : Formula) (i : IrState) → IsLater next i (next + size e) (computed next e i)
 later_computed next e i = record { le = omega arith; temps = λ t lt. temps_before next e i i.temps t lt }
 
+-- their last temporary holds the value
 holds_computed : (next : ℕ) (e : Formula) (i : IrState) (v : ℕ) → IsKeptBelow next e → value i e ≡ v → Holds (next + size e) (computed next e i) (place next e) v
 holds_computed next e i v kept is = record { below = place_below next e kept; is = value_placed next e i i.temps kept ∙ is }
 
@@ -99,6 +107,7 @@ later_loaded next e i v = record {
   temps = λ t lt. put_other (next + size e) v (temps_behind next e i i.temps) t (omega (arith, lt)) ∙ temps_before next e i i.temps t lt;
 }
 
+-- the temporary of a load holds what was read
 holds_loaded : (next : ℕ) (e : Formula) (i : IrState) (v : ℕ) → Holds (next + size e + 1) (set (temp (next + size e)) v (computed next e i)) (next + size e) v
 holds_loaded next e i v = record { below = omega arith; is = put_here (next + size e) v (temps_behind next e i i.temps) }
 
@@ -115,10 +124,12 @@ module _ (may : Permission) (end : IrEnd) where
   abbrev pub LaterWith : Tree (Next (Left Thread)) → Thread → (next : ℕ) → IrState → (v : ℕ) → (Formula → Lifting) → Type 0
   LaterWith q s next i v rest = (t next' : ℕ) (i' : IrState) → SameThread s i' → IsLater next i next' i' → Holds next' i' t v → Does q (rest (Kept t) next') i'
 
+  -- the steps of a formula make no items
   does_computed : (q : Tree (Next (Left Thread))) (next : ℕ) (e : Formula) (xs : List IrStep) (i : IrState) → Does q xs (computed next e i) → Does q (computes next e ++ xs) i
   does_computed q next e xs i here =
       subst (λ t. Beside placed_full 0 (SameNext (SameLeft SameThread)) 0 q (t then ir_end end)) (sym (computes_then may next e xs i)) here
 
+  -- a value is computed and kept
   pub keeps_does : (q : Tree (Next (Left Thread))) (s : Thread) (next : ℕ) (i : IrState) (e : Formula) (v : ℕ) (rest : Formula → Lifting) → SameThread s i → IsKeptBelow next e → value i e ≡ v
       → LaterWith q s next i v rest → Does q (keeps e rest next) i
   unfolding keeps
@@ -126,6 +137,7 @@ module _ (may : Permission) (end : IrEnd) where
       does_computed q next e (rest (Kept (place next e)) (next + size e)) i
       (go (place next e) (next + size e) (computed next e i) (same_temps s i (temps_behind next e i i.temps) same) (later_computed next e i) (holds_computed next e i v kept is))
 
+  -- a register is set, which the thread after it has too
   pub sets_register_does : (q : Tree (Next (Left Thread))) (s : Thread) (next : ℕ) (i : IrState) (r : ℕ) (e : Formula) (v : ℕ) (rest : Lifting) → SameThread s i → IsKeptBelow next e → value i e ≡ v → v < 2 ^ 64
       → Later q (record s { regs = put r v s.regs }) next i rest → Does q (sets_register r e rest next) i
   unfolding sets_register
