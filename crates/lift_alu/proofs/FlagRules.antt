@@ -1,5 +1,5 @@
 -- What the steps that set flags do beside a row.
-use Rattle.std.proofs.Common.{◌≡◌, ℕ, Bool, true, false, refl, sym, ap, ◌∙◌, arith}
+use Rattle.std.proofs.Common.{◌≡◌, ℕ, Bool, refl, sym, ap, ◌∙◌}
 use Rattle.word_arith.specs.Bits.{bit}
 use Rattle.alu_width.specs.declared.flags.Flags.{Flags}
 use Rattle.behavior.specs.Tree.{Tree, Next}
@@ -14,7 +14,7 @@ use Rattle.lift_alu.specs.Formulas.{Formula, Number, Operation, value, Lifting, 
 use Rattle.lift_alu.specs.Flags.{CF, ZF, SF, OF, top, sets_result, sets_flags}
 use Rattle.lift_alu.specs.Meant.{SameThread}
 use Rattle.lift_alu.proofs.Computed.{IsKeptBelow, kept_later}
-use Rattle.lift_alu.proofs.Rules.{IsLater, later_then, with_of, with_zf, with_sf, with_cf, same_of, same_zf, same_sf, same_cf, Does, Later, sets_flag_does}
+use Rattle.lift_alu.proofs.Rules.{IsLater, later_same, later_then, with_of, with_zf, with_sf, same_of, same_zf, same_sf, same_cf, Does, Later, sets_flag_does}
 
 -- what the formulas of a result's flags are in every later state
 pub record ResultFlags (next : ℕ) (i : IrState) (w : Width) (overflow r : Formula) (f : Flags) : Type 0 where
@@ -41,7 +41,7 @@ module _ (may : Permission) (end : IrEnd) where
   sets_result_does q s next i w overflow r f rest same flags is go =
       let last = sets_flag SF (top w r) rest in
       sets_flag_does may end q s (with_of f.of s) next i OF overflow (bit f.of) (sets_flag ZF (Operation ops.Eq r (Number 0)) last) same flags.kept_overflow
-      (flags.of next i (record { le = omega arith; temps = λ t lt. refl })) (λ j same. same_of s j f.of (bit f.of) refl same)
+      (flags.of next i (later_same next i)) (λ j same. same_of s j f.of (bit f.of) refl same)
       (λ n1 i1 same1 later1.
       sets_flag_does may end q (with_of f.of s) (with_zf f.zf (with_of f.of s)) n1 i1 ZF (Operation ops.Eq r (Number 0)) (bit f.zf) last same1 (kept_later next n1 r later1.le flags.kept, tt)
       (flags.zf n1 i1 later1) (λ j same. same_zf (with_of f.of s) j f.zf (bit f.zf) refl same)

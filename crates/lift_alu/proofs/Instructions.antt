@@ -39,4 +39,3 @@ not_locked false built is = cc
 -- a low part of a register
 pub low_register : (w : Width) (r : Reg) → r.high ≡ false → r.number < 16 → IsRegister w r
 low_register w r low lt = record { number = lt; high = λ high. cc }
-

@@ -1,5 +1,5 @@
 -- The formulas of operands and conditions keep only what was set before.
-use Rattle.std.proofs.Common.{◌≡◌, ℕ, ◌-◌, ◌%◌, ◌==◌, Bool, true, false, Option, Some, None}
+use Rattle.std.proofs.Common.{ℕ, ◌-◌, ◌%◌, ◌==◌, Bool, true, false, Option, Some, None}
 use Rattle.std.specs.Prelude.{if◌then◌else◌}
 use Rattle.x64_syntax.specs.declared.operand.Mem.{Mem}
 use Rattle.x64_syntax.specs.declared.operand.Reg.{Reg}

@@ -1,44 +1,39 @@
 -- The steps of arithmetic do what their rows do.
-use Rattle.std.proofs.Common.{◌≡◌, ℕ, ◌+◌, ◌-◌, ◌%◌, ◌^◌, ◌<◌, Bool, true, false, [], refl, sym, ap, ◌∙◌, subst, arith}
+use Rattle.std.proofs.Common.{◌≡◌, ℕ, ◌^◌, ◌<◌, Bool, true, false, refl, sym, subst}
 use Rattle.std.specs.Prelude.{not}
 use Rattle.word_arith.specs.Bits.{bit}
-use Rattle.word_arith.specs.Masks.{ones}
 use Rattle.alu_width.specs.declared.flags.Flags.{Flags}
 use Rattle.alu_width.specs.declared.flags.Outcome.{Outcome}
-use Rattle.alu_width.specs.Sums.{outcome, sum_outcome, difference_outcome}
 use Rattle.behavior.specs.Tree.{Tree, Next, ◌then◌}
 use Rattle.behavior.specs.Acts.{Permission}
 use Rattle.behavior.specs.Leaving.{Left}
-use Rattle.x64_syntax.specs.Formed.{IsStored, IsInRegister, LocksMemory, ArePair}
-use Rattle.x64_syntax.specs.Operands.{bits, is_in_memory}
+use Rattle.x64_syntax.specs.Formed.{ArePair}
+use Rattle.x64_syntax.specs.Operands.{bits}
 use Rattle.x64_syntax.specs.declared.instr.AluOp.{AluOp}
 use Rattle.x64_syntax.specs.declared.instr.AluOp.TheVariants as op
 use Rattle.x64_syntax.specs.declared.instr.Instr.{Instr}
 use Rattle.x64_syntax.specs.declared.instr.Instr.TheVariants as instr
 use Rattle.x64_syntax.specs.declared.operand.Operand.{Operand}
-use Rattle.x64_syntax.specs.declared.operand.Operand.TheVariants as operand
 use Rattle.x64_syntax.specs.declared.operand.Width.{Width}
-use Rattle.x64_table.specs.State.{Thread, register, set, with_flags}
-use Rattle.x64_table.specs.Outcomes.{alu_outcome, inc_outcome, dec_outcome, neg_outcome, not_value}
-use Rattle.x64_table.specs.Rows.{Row, becomes, combine_row, compare_row, alu_row, xadd_row, holds, leaves, acts}
+use Rattle.x64_table.specs.State.{Thread, with_flags}
+use Rattle.x64_table.specs.Outcomes.{alu_outcome}
+use Rattle.x64_table.specs.Rows.{becomes, combine_row, compare_row, alu_row, holds, leaves, acts}
 use Rattle.x64_table.specs.Rows as rows
 use Rattle.limm_ir.specs.Steps.{IrState}
 use Rattle.limm_ir.specs.declared.block.IrEnd.{IrEnd}
 use Rattle.limm_ir.specs.declared.block.IrEnd.TheVariants as ends
 use Rattle.limm_ir.specs.declared.step.IrOp.TheVariants as ops
 use Rattle.lift_alu.specs.Formulas.{Formula, Kept, Number, Flag, Operation, value, Lifting, done, keeps}
-use Rattle.lift_alu.specs.Operands.{clean}
-use Rattle.lift_alu.specs.Flags.{top, sum_overflow, difference_overflow, borrow, sets_result, sets_flags}
-use Rattle.lift_alu.specs.Lifted.{puts, puts_operand, result, flags_of, compares, combines, adds_exchanged, lifts}
+use Rattle.lift_alu.specs.Flags.{top, sum_overflow, difference_overflow, sets_flags}
+use Rattle.lift_alu.specs.Lifted.{result, flags_of, compares, combines, lifts}
 use Rattle.lift_alu.specs.Lifted as lifted
-use Rattle.lift_alu.specs.Meant.{SameThread, end_from}
-use Rattle.lift_alu.proofs.OperandValues.{register_below, value_register}
-use Rattle.lift_alu.proofs.FlagValues.{HasFlags, overflow_of, carry_of, value_result, result_below, value_overflow, value_zero, value_sign, value_carry, StepsOutcome, value_inc, flags_inc, value_dec, flags_dec, value_neg, NegOutcome, flags_neg, value_not}
+use Rattle.lift_alu.specs.Meant.{SameThread}
+use Rattle.lift_alu.proofs.FlagValues.{HasFlags, overflow_of, carry_of, value_result, result_below, value_overflow, value_zero, value_sign, value_carry}
 use Rattle.lift_alu.proofs.Computed.{IsKeptBelow}
 use Rattle.lift_alu.proofs.KeptFormulas.{below_clean}
-use Rattle.lift_alu.proofs.Rules.{IsLater, Does, Later, Holds, holds_later, later_then, keeps_does}
-use Rattle.lift_alu.proofs.FlagRules.{ResultFlags, CarryFlag, sets_result_does, sets_flags_does}
-use Rattle.lift_alu.proofs.OperandRules.{fetched_stored, stored_register, pair_stored, pair_fetched, low_of_fit, low_below, fetches_does, ends_does, puts_does, puts_ends, changes_does}
+use Rattle.lift_alu.proofs.Rules.{IsLater, Does, Later, Holds, holds_later, keeps_does}
+use Rattle.lift_alu.proofs.FlagRules.{ResultFlags, CarryFlag, sets_flags_does}
+use Rattle.lift_alu.proofs.OperandRules.{fetched_stored, pair_stored, pair_fetched, fetches_does, ends_does, changes_does}
 use Rattle.lift_alu.proofs.Instructions.{has_flags, not_locked, Follows, Means}
 
 -- two numbers become what they are

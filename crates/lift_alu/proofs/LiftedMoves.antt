@@ -1,14 +1,13 @@
 -- The steps of moves do what their rows do.
-use Rattle.std.proofs.Common.{◌≡◌, ◌≢◌, ℕ, ◌+◌, ◌%◌, ◌^◌, ◌<◌, ◌≤◌, Bool, true, false, inl, inr, [], refl, sym, ap, ◌∙◌, subst, arith}
+use Rattle.std.proofs.Common.{◌≡◌, ◌≢◌, ℕ, ◌%◌, ◌^◌, ◌<◌, ◌≤◌, Bool, true, false, inl, inr, refl, sym, ap, ◌∙◌, subst, arith}
 use Rattle.std.specs.Prelude.{not, if◌then◌else◌}
 use Rattle.word_arith.specs.Bits.{bit}
 use Rattle.word_arith.specs.Signed.{sign_extend}
-use Rattle.word_arith.proofs.CallerLemmas.{bit_below, sign_extend_below}
+use Rattle.word_arith.proofs.CallerLemmas.{bit_below}
 use Rattle.alu_width.specs.Conditions.{condition}
-use Rattle.behavior.specs.Tree.{Tree, Next, ◌then◌}
+use Rattle.behavior.specs.Tree.{◌then◌}
 use Rattle.behavior.specs.Acts.{Permission}
-use Rattle.behavior.specs.Leaving.{Left}
-use Rattle.x64_syntax.specs.Formed.{IsRegister, IsCondition, IsInRegister, IsInMemory, IsStored, IsNarrow, IsFormed, ArePair}
+use Rattle.x64_syntax.specs.Formed.{IsRegister, IsCondition, IsInRegister, IsInMemory, IsStored, IsNarrow, ArePair}
 use Rattle.x64_syntax.specs.Operands.{bits, is_in_memory}
 use Rattle.x64_syntax.specs.declared.instr.Instr.{Instr}
 use Rattle.x64_syntax.specs.declared.instr.Instr.TheVariants as instr
@@ -18,30 +17,27 @@ use Rattle.x64_syntax.specs.declared.operand.Operand.TheVariants as operand
 use Rattle.x64_syntax.specs.declared.operand.Reg.{Reg}
 use Rattle.x64_syntax.specs.declared.operand.Width.{Width}
 use Rattle.x64_syntax.specs.declared.operand.Width.TheVariants as width
-use Rattle.x64_syntax.specs.declared.placed.Flow.{Flow}
 use Rattle.x64_table.specs.State.{Thread, register, set, rax, upper, address}
 use Rattle.x64_table.specs.Outcomes.{filled}
-use Rattle.x64_table.specs.Rows.{Exit, half, holds, address_of, acts}
+use Rattle.x64_table.specs.Rows.{half, holds, address_of, acts}
 use Rattle.x64_table.specs.Rows as rows
-use Rattle.x64_table.specs.Blocks.{goes_on, x64_block}
 use Rattle.limm_ir.specs.Steps.{IrState}
-use Rattle.limm_ir.specs.declared.block.IrEnd.{IrEnd}
 use Rattle.limm_ir.specs.declared.block.IrEnd.TheVariants as ends
 use Rattle.limm_ir.specs.declared.step.IrOp.TheVariants as ops
-use Rattle.lift_alu.specs.Formulas.{Formula, Kept, Number, Operation, Choice, value, Lifting, done, keeps}
+use Rattle.lift_alu.specs.Formulas.{Formula, Kept, Number, Operation, Choice, value, done}
 use Rattle.lift_alu.specs.Flags.{condition_formula}
 use Rattle.lift_alu.specs.Operands.{clean, with_sign, register_formula, address_formula}
 use Rattle.lift_alu.specs.Lifted.{puts, puts_operand, moves, takes_address, exchanges, chooses, lifts}
 use Rattle.lift_alu.specs.Lifted as lifted
-use Rattle.lift_alu.specs.Meant.{SameThread, end_from}
+use Rattle.lift_alu.specs.Meant.{SameThread}
 use Rattle.lift_alu.proofs.OperandValues.{value_clean, register_below, value_register, address_below}
-use Rattle.lift_alu.proofs.FlagValues.{HasFlags, value_condition}
+use Rattle.lift_alu.proofs.FlagValues.{value_condition}
 use Rattle.lift_alu.proofs.Computed.{IsKeptBelow}
 use Rattle.lift_alu.proofs.KeptFormulas.{below_clean, below_with_sign, below_register, below_address, below_condition}
 use Rattle.lift_alu.proofs.MoveValues.{value_extended, value_filled, value_choice}
 use Rattle.lift_alu.proofs.Rules.{Does, keeps_does, Holds, holds_later}
 use Rattle.lift_alu.proofs.Instructions.{Follows, Means, has_flags, not_locked, low_register}
-use Rattle.lift_alu.proofs.OperandRules.{fetched_stored, stored_register, pair_stored, pair_fetched, low_of_fit, value_address_at, fetches_does, moves_does, ends_does, puts_does, puts_ends}
+use Rattle.lift_alu.proofs.OperandRules.{fetched_stored, pair_stored, pair_fetched, low_of_fit, value_address_at, fetches_does, moves_does, puts_does, puts_ends}
 
 -- a value of 8 or 16 bits fits a greater width
 narrow_fits : (w v : Width) (a : ℕ) → w ≢ width.Byte → IsNarrow v → a < 2 ^ bits v → a < 2 ^ bits w

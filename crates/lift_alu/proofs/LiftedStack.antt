@@ -1,5 +1,5 @@
 -- The steps of what uses the stack, of a fence and of instructions that do nothing do what their rows do.
-use Rattle.std.proofs.Common.{◌≡◌, ℕ, ◌+◌, ◌-◌, ◌%◌, ◌^◌, ◌<◌, ◌⊎◌, inl, inr, [], refl, sym, ap, ◌∙◌, subst, arith}
+use Rattle.std.proofs.Common.{◌≡◌, ℕ, ◌+◌, ◌-◌, ◌%◌, ◌^◌, ◌<◌, ◌⊎◌, inl, inr, [], refl, ap, ◌∙◌, arith}
 use Rattle.ev_graph.specs.declared.events.FenceKind.TheVariants.{Mfence, Fsc}
 use Rattle.behavior.specs.Tree.{Tree, Next, ◌then◌}
 use Rattle.behavior.specs.Acts.{Permission, goes, reads, writes}
@@ -8,15 +8,11 @@ use Rattle.behavior.specs.Kept.{both-go, both-stop}
 use Rattle.behavior.specs.Seen.{placed_full}
 use Rattle.behavior.proofs.Beside.{give}
 use Rattle.behavior.proofs.ActsLemmas.{beside_fences}
-use Rattle.x64_syntax.specs.Formed.{IsRegister, IsStored, IsNumber, IsFormed}
-use Rattle.x64_syntax.specs.Operands.{bits}
+use Rattle.x64_syntax.specs.Formed.{IsRegister, IsStored, IsNumber}
 use Rattle.x64_syntax.specs.declared.instr.Instr.{Instr}
 use Rattle.x64_syntax.specs.declared.instr.Instr.TheVariants as instr
 use Rattle.x64_syntax.specs.declared.operand.Operand.{Operand}
-use Rattle.x64_syntax.specs.declared.operand.Operand.TheVariants as operand
-use Rattle.x64_syntax.specs.declared.operand.Width.{Width}
 use Rattle.x64_syntax.specs.declared.operand.Width.TheVariants as width
-use Rattle.x64_syntax.specs.declared.placed.Flow.{Flow}
 use Rattle.x64_table.specs.State.{Thread, register, set, rsp, rbp, below_stack, pushed, popped}
 use Rattle.x64_table.specs.Rows.{Row, Return, push_row, pop_row, leave_row, returns, leaves, acts}
 use Rattle.x64_table.specs.Rows as rows
@@ -26,12 +22,11 @@ use Rattle.limm_ir.specs.Blocks.{ir_block}
 use Rattle.limm_ir.specs.declared.block.IrEnd.{IrEnd}
 use Rattle.limm_ir.specs.declared.block.IrEnd.TheVariants as ends
 use Rattle.limm_ir.specs.declared.step.IrOp.TheVariants as ops
-use Rattle.lift_alu.specs.Formulas.{Formula, Kept, Number, Register, Operation, temp, value, Lifting, done, keeps, sets_register, loads, stores}
+use Rattle.lift_alu.specs.Formulas.{Formula, Kept, Number, Register, Operation, temp, value, Lifting, done, keeps, sets_register, stores}
 use Rattle.lift_alu.specs.Operands.{clean, register_formula, merged_formula}
 use Rattle.lift_alu.specs.Lifted.{puts, moves, pushes, pops, leaves_frame, kept_in, lifts}
-use Rattle.lift_alu.specs.Lifted as lifted
-use Rattle.lift_alu.specs.Meant.{SameThread, end_from}
-use Rattle.lift_alu.proofs.OperandValues.{register_below, value_register}
+use Rattle.lift_alu.specs.Meant.{SameThread}
+use Rattle.lift_alu.proofs.OperandValues.{value_register}
 use Rattle.lift_alu.proofs.Computed.{IsKeptBelow}
 use Rattle.lift_alu.proofs.Rules.{Does, Later, Holds, holds_later, keeps_does, loads_does, stores_does}
 use Rattle.lift_alu.proofs.OperandRules.{IsFetched, fetched_stored, fetched_number, low_of_fit, fetches_does, moves_does, ends_does, puts_does}

@@ -1,15 +1,13 @@
 -- The steps of INC, DEC, NOT, NEG and XADD do what their rows do.
-use Rattle.std.proofs.Common.{◌≡◌, ℕ, ◌+◌, ◌-◌, ◌%◌, ◌^◌, ◌<◌, Bool, true, false, [], refl, sym, ap, ◌∙◌, subst, arith}
+use Rattle.std.proofs.Common.{◌≡◌, ℕ, ◌+◌, ◌-◌, ◌^◌, ◌<◌, Bool, true, false, refl, sym, ◌∙◌, subst, arith}
 use Rattle.std.specs.Prelude.{not}
-use Rattle.word_arith.specs.Bits.{bit}
 use Rattle.word_arith.specs.Masks.{ones}
 use Rattle.alu_width.specs.declared.flags.Flags.{Flags}
 use Rattle.alu_width.specs.declared.flags.Outcome.{Outcome}
 use Rattle.alu_width.specs.Sums.{outcome, sum_outcome, difference_outcome}
-use Rattle.behavior.specs.Tree.{Tree, Next, ◌then◌}
+use Rattle.behavior.specs.Tree.{◌then◌}
 use Rattle.behavior.specs.Acts.{Permission}
-use Rattle.behavior.specs.Leaving.{Left}
-use Rattle.x64_syntax.specs.Formed.{IsStored, IsInRegister, LocksMemory}
+use Rattle.x64_syntax.specs.Formed.{IsStored, IsInRegister}
 use Rattle.x64_syntax.specs.Operands.{bits, is_in_memory}
 use Rattle.x64_syntax.specs.declared.instr.AluOp.TheVariants as op
 use Rattle.x64_syntax.specs.declared.instr.Instr.{Instr}
@@ -25,7 +23,7 @@ use Rattle.x64_table.specs.Rows as rows
 use Rattle.limm_ir.specs.Steps.{IrState}
 use Rattle.limm_ir.specs.declared.block.IrEnd.TheVariants as ends
 use Rattle.limm_ir.specs.declared.step.IrOp.TheVariants as ops
-use Rattle.lift_alu.specs.Formulas.{Formula, Kept, Number, Operation, value, Lifting, done, keeps}
+use Rattle.lift_alu.specs.Formulas.{Formula, Kept, Number, Operation, value, done, keeps}
 use Rattle.lift_alu.specs.Operands.{clean}
 use Rattle.lift_alu.specs.Flags.{top, sum_overflow, difference_overflow, borrow, sets_result, sets_flags}
 use Rattle.lift_alu.specs.Lifted.{puts, puts_operand, result, flags_of, adds_exchanged, lifts}
@@ -34,9 +32,9 @@ use Rattle.lift_alu.specs.Meant.{SameThread}
 use Rattle.lift_alu.proofs.FlagValues.{result_below, StepsOutcome, value_inc, flags_inc, value_dec, flags_dec, value_neg, NegOutcome, flags_neg, value_not}
 use Rattle.lift_alu.proofs.Computed.{IsKeptBelow}
 use Rattle.lift_alu.proofs.KeptFormulas.{below_clean}
-use Rattle.lift_alu.proofs.Rules.{IsLater, Does, Later, Holds, holds_later, later_then, keeps_does}
-use Rattle.lift_alu.proofs.FlagRules.{ResultFlags, CarryFlag, sets_result_does, sets_flags_does}
-use Rattle.lift_alu.proofs.OperandRules.{low_of_fit, low_below, fetches_does, ends_does, puts_does, puts_ends, changes_does}
+use Rattle.lift_alu.proofs.Rules.{Does, Holds, holds_later, later_same, later_then, keeps_does}
+use Rattle.lift_alu.proofs.FlagRules.{ResultFlags, sets_result_does, sets_flags_does}
+use Rattle.lift_alu.proofs.OperandRules.{low_of_fit, low_below, fetches_does, puts_does, puts_ends, changes_does}
 use Rattle.lift_alu.proofs.Instructions.{has_flags, not_locked, Follows, Means}
 use Rattle.lift_alu.proofs.LiftedArithmetic.{Both, both_later, below_result, result_here, flags_does}
 
@@ -164,7 +162,7 @@ module _ (may : Permission) (table place after temps : ℕ) (fits : after < 2 ^ 
         subst (λ x. value j (Operation ops.Xor (Kept k) (Number (ones (bits w)))) ≡ not_value (bits w) x) holds.is (value_not w j (Kept k) (subst (λ x. x < 2 ^ bits w) (sym holds.is) fit)),
         not_below w a,
       ))
-      (λ a fit ka kr n j q rest same' later old changed go. go n j same' (record { le = omega arith; temps = λ t lt. refl }))
+      (λ a fit ka kr n j q rest same' later old changed go. go n j same' (later_same n j))
 
   -- XADD of two registers
   pub xadd_means : (w : Width) (to from : Operand) (locked : Bool) → not locked ≡ true → IsStored w to × (IsInRegister w from × (locked ≡ is_in_memory to)) → Here (instr.Xadd w to from locked)

@@ -1,5 +1,5 @@
 -- What the steps of operands do beside a row: they fetch, find, change and set what its acts do.
-use Rattle.std.proofs.Common.{◌≡◌, ℕ, ◌+◌, ◌%◌, ◌^◌, ◌<◌, ◌≤◌, Bool, true, false, inl, inr, [], refl, sym, ap, ◌∙◌, subst, arith}
+use Rattle.std.proofs.Common.{◌≡◌, ℕ, ◌+◌, ◌%◌, ◌^◌, ◌<◌, ◌≤◌, true, false, inl, inr, [], refl, sym, ap, ◌∙◌, subst, arith}
 use Rattle.behavior.specs.Tree.{Tree, Next, ◌then◌}
 use Rattle.behavior.specs.Acts.{Permission}
 use Rattle.behavior.specs.Leaving.{Left, ToBlock}
@@ -20,15 +20,15 @@ use Rattle.x64_table.specs.Blocks.{goes_on, x64_block}
 use Rattle.limm_ir.specs.Steps.{IrState}
 use Rattle.limm_ir.specs.declared.block.IrEnd.{IrEnd}
 use Rattle.limm_ir.specs.declared.block.IrEnd.TheVariants as ends
-use Rattle.lift_alu.specs.Formulas.{Formula, Kept, Number, Register, value, Lifting, done, keeps, loads}
+use Rattle.lift_alu.specs.Formulas.{Formula, Kept, Number, Register, value, Lifting, done, keeps}
 use Rattle.lift_alu.specs.Operands.{register_formula, merged_formula, address_formula}
-use Rattle.lift_alu.specs.Lifted.{Place, InRegister, InMemory, Nowhere, in_memory, puts, puts_operand, finds, moves, reads_there, writes_there, puts_there}
+use Rattle.lift_alu.specs.Lifted.{InMemory, in_memory, puts, finds, moves, reads_there, writes_there, puts_there}
 use Rattle.lift_alu.specs.Lifted as lifted
 use Rattle.lift_alu.specs.Meant.{SameThread}
 use Rattle.lift_alu.proofs.OperandValues.{register_below, value_register, value_merged, merged_below, merged-low, value_address}
 use Rattle.lift_alu.proofs.Computed.{IsKeptBelow}
 use Rattle.lift_alu.proofs.KeptFormulas.{below_register, below_merged, below_address}
-use Rattle.lift_alu.proofs.Rules.{IsLater, Holds, holds_later, later_same, later_then, Does, Later, keeps_does, sets_register_does, loads_does, stores_does}
+use Rattle.lift_alu.proofs.Rules.{IsLater, Holds, holds_later, later_then, Does, Later, keeps_does, sets_register_does, loads_does, stores_does}
 
 -- an operand whose value can be fetched
 abbrev pub IsFetched : Width → Operand → Type 0

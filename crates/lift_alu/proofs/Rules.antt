@@ -1,7 +1,6 @@
 -- Rules of stepping: what lifted steps do beside a row, one combinator at a time.
-use Rattle.std.proofs.Common.{◌≡◌, ◌≢◌, ℕ, ◌+◌, ◌^◌, ◌<◌, ◌≤◌, ◌==◌, Bool, true, false, List, [], ◌∷◌, ◌++◌, refl, sym, ap, ◌∙◌, subst, arith}
+use Rattle.std.proofs.Common.{◌≡◌, ℕ, ◌+◌, ◌^◌, ◌<◌, ◌≤◌, Bool, List, ◌∷◌, ◌++◌, refl, sym, ◌∙◌, subst, arith}
 use Rattle.word_arith.specs.Bits.{bit}
-use Rattle.alu_width.specs.declared.flags.Flags.{Flags}
 use Rattle.behavior.specs.Tree.{Tree, Next, ◌then◌}
 use Rattle.behavior.specs.Acts.{Bank, put, Permission, goes, reads, writes}
 use Rattle.behavior.specs.Leaving.{Left, SameLeft}
