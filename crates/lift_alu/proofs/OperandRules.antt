@@ -1,5 +1,5 @@
 -- What the steps of operands do beside a row: they fetch, find, change and set what its acts do.
-use Rattle.std.proofs.Common.{◌≡◌, ℕ, ◌+◌, ◌%◌, ◌^◌, ◌<◌, ◌≤◌, true, false, inl, inr, [], refl, sym, ap, ◌∙◌, subst, arith}
+use Rattle.std.proofs.Common.{◌≡◌, ℕ, ◌+◌, ◌%◌, ◌^◌, ◌<◌, true, false, inl, inr, [], refl, sym, ap, ◌∙◌, subst, arith}
 use Rattle.behavior.specs.Tree.{Tree, Next, ◌then◌}
 use Rattle.behavior.specs.Acts.{Permission}
 use Rattle.behavior.specs.Leaving.{Left, ToBlock}
@@ -72,13 +72,6 @@ width_bytes width.Byte = refl
 width_bytes width.Word = refl
 width_bytes width.Long = refl
 width_bytes width.Quad = refl
-
--- a width is at most 64 bits
-pub quad_most : (w : Width) → 2 ^ bits w ≤ 2 ^ 64
-quad_most width.Byte = omega arith
-quad_most width.Word = omega arith
-quad_most width.Long = omega arith
-quad_most width.Quad = omega arith
 
 -- a value of a width is its low bits
 pub low_of_fit : (w : Width) (v : ℕ) → v < 2 ^ bits w → v ≡ v % 2 ^ bits w
