@@ -1,5 +1,17 @@
 mod OperandValues
 mod FlagValues
+mod Banks
+mod Computed
+mod Rules
+mod KeptFormulas
+mod FlagRules
+mod OperandRules
+mod Instructions
+mod MoveValues
+mod LiftedMoves
+mod LiftedStack
+mod LiftedArithmetic
+mod LiftedSteps
 mod Meaning
 mod Selectable
 mod Unlocked

@@ -1,24 +1,103 @@
 -- The steps of an instruction do what its row does.
-use Rattle.std.proofs.Common.{◌≡◌, ℕ, ◌^◌, ◌<◌, true, []}
+use Rattle.std.proofs.Common.{◌≡◌, ℕ, ◌+◌, ◌%◌, ◌^◌, ◌<◌, ◌≤◌, true, false, [], refl, subst, arith}
 use Rattle.behavior.specs.Tree.{◌then◌}
 use Rattle.behavior.specs.Acts.{Permission}
 use Rattle.behavior.specs.Leaving.{SameLeft}
 use Rattle.behavior.specs.Seen.{placed_full}
 use Rattle.behavior.specs.Kept.{SameNext, Keeps}
+use Rattle.behavior.proofs.Beside.{Beside, beside_keeps}
+use Rattle.behavior.proofs.SeenLemmas.{sees-placed_full}
 use Rattle.x64_syntax.specs.Formed.{IsFormed}
+use Rattle.x64_syntax.specs.declared.instr.Instr.{Instr}
+use Rattle.x64_syntax.specs.declared.instr.Instr.TheVariants as instr
 use Rattle.x64_syntax.specs.declared.placed.Placed.{Placed}
 use Rattle.x64_table.specs.Blocks.{goes_on, x64_block}
 use Rattle.x64_table.specs.Rows.{row_of}
 use Rattle.x64_table.specs.State.{Thread}
-use Rattle.limm_ir.specs.Costs.{no_cost}
+use Rattle.limm_ir.specs.Costs.{no_cost, cost_of, fenced_cost}
 use Rattle.limm_ir.specs.Steps.{IrState}
 use Rattle.limm_ir.specs.Blocks.{ir_block}
+use Rattle.limm_ir.proofs.CallerLemmas.{keeps_counted}
 use Rattle.lift_alu.specs.Built.{is_built}
 use Rattle.lift_alu.specs.Lifted.{lifts}
-use Rattle.lift_alu.specs.Meant.{SameThread, after, end_of}
+use Rattle.lift_alu.specs.Meant.{SameThread, LiftsInstr, after, end_from, end_of}
+use Rattle.lift_alu.proofs.Instructions.{Means}
+use Rattle.lift_alu.proofs.LiftedMoves.{mov_means, lea_means, movzx_means, movsx_means, movsxd_means, setcc_means, cmovcc_means, widen_means, signfill_means, xchg_means}
+use Rattle.lift_alu.proofs.LiftedStack.{push_means, pop_means, leave_means, ret_means, nop_means, pause_means, endbr_means, mfence_means, ud2_means}
+use Rattle.lift_alu.proofs.LiftedArithmetic.{alu_means, test_means}
+use Rattle.lift_alu.proofs.LiftedSteps.{inc_means, dec_means, neg_means, not_means, xadd_means}
 
+-- what isn't built so far is not lifted
+not_built : {A : Type 0} → false ≡ true → A
+not_built is = cc
+
+module _ (may : Permission) (table place next temps : ℕ) (fits : next < 2 ^ 64) where
+  -- the steps of each instruction that is built so far do what its row does
+  each_means : (i : Instr) → IsFormed i → is_built i ≡ true → Means may table place next temps i
+  each_means (instr.Alu o w to from locked) formed built = alu_means may table place next temps fits o w to from locked built formed.0
+  each_means (instr.Test w to from) formed built = test_means may table place next temps fits w to from formed
+  each_means (instr.Xchg w to from locked) formed built = xchg_means may table place next temps fits w to from locked built formed
+  each_means (instr.Mov w to from) formed built = mov_means may table place next temps fits w to from formed
+  each_means (instr.Lea w to from) formed built = lea_means may table place next temps fits w to from formed
+  each_means (instr.MovZx w v to from) formed built = movzx_means may table place next temps fits w v to from formed
+  each_means (instr.MovSx w v to from) formed built = movsx_means may table place next temps fits w v to from formed
+  each_means (instr.MovSxd to from) formed built = movsxd_means may table place next temps fits to from formed
+  each_means (instr.Push from) formed built = push_means may table place next temps fits from formed
+  each_means (instr.Pop to) formed built = pop_means may table place next temps fits to formed
+  each_means instr.Leave formed built = leave_means may table place next temps fits
+  each_means instr.Ret formed built = ret_means may table place next temps fits
+  each_means (instr.SetCc c to) formed built = setcc_means may table place next temps fits c to formed
+  each_means (instr.CmovCc c w to from) formed built = cmovcc_means may table place next temps fits c w to from formed
+  each_means (instr.Inc w to locked) formed built = inc_means may table place next temps fits w to locked built formed.0
+  each_means (instr.Dec w to locked) formed built = dec_means may table place next temps fits w to locked built formed.0
+  each_means (instr.Not w to locked) formed built = not_means may table place next temps fits w to locked built formed.0
+  each_means (instr.Neg w to) formed built = neg_means may table place next temps fits w to formed
+  each_means (instr.Xadd w to from locked) formed built = xadd_means may table place next temps fits w to from locked built formed
+  each_means (instr.Widen w) formed built = widen_means may table place next temps fits w
+  each_means (instr.SignFill w) formed built = signfill_means may table place next temps fits w formed
+  each_means instr.Nop formed built = nop_means may table place next temps fits
+  each_means instr.Pause formed built = pause_means may table place next temps fits
+  each_means instr.Endbr formed built = endbr_means may table place next temps fits
+  each_means instr.Mfence formed built = mfence_means may table place next temps fits
+  each_means instr.Ud2 formed built = ud2_means may table place next temps fits
+  each_means (instr.Call d) formed built = not_built built
+  each_means (instr.Jmp d) formed built = not_built built
+  each_means (instr.CallInd to) formed built = not_built built
+  each_means (instr.JmpInd to) formed built = not_built built
+  each_means (instr.Jcc c d) formed built = not_built built
+  each_means (instr.Mul w from) formed built = not_built built
+  each_means (instr.ImulOne w from) formed built = not_built built
+  each_means (instr.Div w from) formed built = not_built built
+  each_means (instr.Idiv w from) formed built = not_built built
+  each_means (instr.ImulTwo w to from) formed built = not_built built
+  each_means (instr.ImulThree w to from by) formed built = not_built built
+  each_means (instr.Shift o w to by) formed built = not_built built
+  each_means (instr.Cmpxchg w to from locked) formed built = not_built built
+
+-- an address that is cut fits
+cut_fits : (a : ℕ) → a % 2 ^ 64 < 2 ^ 64
+cut_fits a = omega arith
+
+-- a thread behind an instruction has the same registers and flags
+same_behind : (s : Thread) (i : IrState) (at : ℕ) → SameThread s i → SameThread (record s { at = at }) i
+same_behind s i at same = record { regs = same.regs; fit = same.fit; cf = same.cf; zf = same.zf; sf = same.sf; of = same.of }
+
+-- the steps do what the row does and then what follows it, where instructions are not counted
 pub lifts_mean : (p : Placed) (temps : ℕ) → IsFormed p.instr → is_built p.instr ≡ true → (may : Permission) (table : ℕ) (s : Thread) (i : IrState)
     → s.at ≡ p.address → SameThread s i
     → Keeps placed_full 0 0 (SameNext (SameLeft SameThread)) (row_of may p.instr p.length p.flow s then goes_on table (x64_block may table []))
     (ir_block no_cost may (lifts p.address (after p) p.instr temps) (end_of p temps) i)
-lifts_mean p temps formed built may table s i at same = ?
+unfolding row_of
+lifts_mean p temps formed built may table s i at same =
+    let next = (s.at + p.length) % 2 ^ 64 in
+    let here = each_means may table s.at next temps (cut_fits (s.at + p.length)) p.instr formed built p.flow (record s { at = next }) i refl (same_behind s i next same) in
+    beside_keeps placed_full sees-placed_full 0 (SameNext (SameLeft SameThread))
+    (subst (λ a. Beside placed_full 0 (SameNext (SameLeft SameThread)) 0 (row_of may p.instr p.length p.flow s then goes_on table (x64_block may table []))
+    (ir_block no_cost may (lifts a ((a + p.length) % 2 ^ 64) p.instr temps) (end_from p.instr ((a + p.length) % 2 ^ 64) temps) i)) at here)
+
+-- and so where each step begins as many instructions as it costs, of which there are at most `most`
+pub lifts_instr : (most : ℕ) (p : Placed) (temps : ℕ) → IsFormed p.instr → is_built p.instr ≡ true → cost_of fenced_cost (lifts p.address (after p) p.instr temps) ≤ most
+    → LiftsInstr most p temps (lifts p.address (after p) p.instr temps)
+lifts_instr most p temps formed built few may table s i at same =
+    keeps_counted fenced_cost may placed_full most (SameNext (SameLeft SameThread)) (row_of may p.instr p.length p.flow s then goes_on table (x64_block may table []))
+    (lifts p.address (after p) p.instr temps) (end_of p temps) i few (lifts_mean p temps formed built may table s i at same)
