@@ -1,1 +1,4 @@
 pub mod Selected
+pub mod Groups
+pub mod Sizes
+pub mod Ranges

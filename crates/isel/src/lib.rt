@@ -3,6 +3,8 @@
 //! Source: instruction selection by one group of words for each operator, as in Appel, Modern Compiler Implementation, chapter 9.
 #![tactic(auto)]
 
-mod select;
+mod bits;
+mod group;
+mod selecting;
 
-pub use select::select;
+pub use selecting::select;
