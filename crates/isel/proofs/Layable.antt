@@ -55,7 +55,7 @@ lays_append xs ys first second =
 reg : (n : ℕ) → n ≢ 20 → IsRegister (some_register n)
 reg n apart = by (n == 20) refl
   where
-    by : (b : Bool) → (n == 20) ≡ b → ((if b then 31 else 0) < 29) × ((if b then 31 else 0) ≢ 18)
+    by : (b : Bool) → (n == 20) ≡ b → IsRegister (record { number = if b then 31 else 0 })
     by true e = absurd (apart (eqb-true n 20 e))
     by false e = (omega arith, λ same. absurd (omega (arith, same)))
 
@@ -63,7 +63,7 @@ reg n apart = by (n == 20) refl
 operand : (n : ℕ) → IsOperand (some_register n)
 operand n = by (n == 20)
   where
-    by : (b : Bool) → (((if b then 31 else 0) < 29) × ((if b then 31 else 0) ≢ 18)) ⊎ ((if b then 31 else 0) ≡ 31)
+    by : (b : Bool) → IsOperand (record { number = if b then 31 else 0 })
     by true = inr refl
     by false = inl (omega arith, λ same. absurd (omega (arith, same)))
 
