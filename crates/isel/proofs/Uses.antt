@@ -217,7 +217,12 @@ behind_zero x k n high reads (inr (inr e)) = elim e [ ]
 locked_fine : (op : RmwOp) (t a v : Temp) (size place : ℕ) (w : A64 ℕ) → a64_result numbers w ≡ Some (21 + t.0) → a64_operands numbers w ≡ (21 + v.0) ∷ (21 + a.0) ∷ []
     → Fine (steps.Rmw op t a v size place) false (w ∷ [])
 locked_fine op t a v size place w result operands =
-    sets t.0 (λ n high r. inl (elim (subst (λ l. Among l n) operands r) [ inl e ↦ inr (inl (omega (arith, e))) | inr u ↦ elim u [ inl e ↦ inl (omega (arith, e)) | inr e ↦ elim e [ ] ] ])) refl result finished
+    sets t.0 (λ n high r. inl (by n (subst (λ l. Among l n) operands r))) refl result finished
+  where
+    by : (n : ℕ) → Among ((21 + v.0) ∷ (21 + a.0) ∷ []) n → Among (a.0 ∷ v.0 ∷ []) (n - 21)
+    by n (inl e) = inr (inl (omega (arith, e)))
+    by n (inr (inl e)) = inl (omega (arith, e))
+    by n (inr (inr e)) = elim e [ ]
 
 -- the registers and flags of a step are in range
 abbrev pub IsLow : IrStep → Type 0
@@ -306,14 +311,14 @@ module _ (fin : AEnd ℕ) (last : ℕ → ℕ) (n : ℕ) (high : 20 < n) (rest :
   straight_first x range straight read = first_read fin x n high rest (group_fine last x range) straight (λ e again. false_true e) read
 
   -- on both ways of a trap the rest comes behind it
-  trap_first : (t : Temp) (either : IsReadFirst fin rest 0 n ⊎ IsReadFirst fin rest 0 n) → IsReadFirst fin rest 0 n
-  trap_first t (inl h) = h
-  trap_first t (inr h) = h
+  trap_first : IsReadFirst fin rest 0 n ⊎ IsReadFirst fin rest 0 n → IsReadFirst fin rest 0 n
+  trap_first (inl h) = h
+  trap_first (inr h) = h
 
   pub group_first : (x : IrStep) → IsLow x → IsReadFirst fin (group_of last x ++ rest) 0 n → ReadsFirst fin x n high rest
   group_first (steps.TrapIf t kind) range (inl h) = inl (lower (t.0 ∷ []) n (among ((21 + t.0) ∷ []) n h))
   group_first (steps.TrapIf t kind) range (inr (other, inl (inl h))) = elim (among [] n h) [ ]
-  group_first (steps.TrapIf t kind) range (inr (other, inl (inr h))) = inr (none_some (n - 21), trap_first t h.1)
+  group_first (steps.TrapIf t kind) range (inr (other, inl (inr h))) = inr (none_some (n - 21), trap_first h.1)
   group_first (steps.TrapIf t kind) range (inr (other, inr h)) = inr (none_some (n - 21), h)
   group_first (steps.Const t v) range read = straight_first (steps.Const t v) range (number_straight (21 + t.0) v) read
   group_first (steps.Op op t a b) range read = straight_first (steps.Op op t a b) range (op_straight (last b.0) op (21 + t.0) (21 + a.0) (21 + b.0)) read

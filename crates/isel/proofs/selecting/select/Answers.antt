@@ -5,6 +5,8 @@ use Rattle.limm_ir.specs.Costs.{cost_of, step_cost}
 use Rattle.isel.specs.Groups.{selected, selected_end}
 use Rattle.isel.specs.Ranges.{HasSmall, Fits}
 use Rattle.isel.specs.Selected.{MeansSteps}
+use Rattle.a64_block.specs.Conditions.{IsAllocatable}
+use Rattle.isel.proofs.Live.{selected_allocatable}
 use Rattle.isel.proofs.Costs.{selected_few}
 use Rattle.isel.proofs.Small.{block_small}
 use Rattle.isel.proofs.Meaning.{selected_means}
@@ -27,7 +29,11 @@ returns-clause-meaning c =
     (subst (λ fin. MeansSteps xs end (selected (λ t. Unset) xs) fin) (sym c.select_end.ensures) (selected_means xs end c.requires.well c.requires.once fits))
 
 pub returns-clause-allocatable : goal.returns-clause-allocatable
-returns-clause-allocatable c = ?
+returns-clause-allocatable c =
+    let xs = c.args.block.now.steps in
+    let end = c.args.block.now.end in
+    let same = c.of.ensures ∙ c.in_ok-words.ensures.words ∙ ap (selected (λ t. Unset)) c.as_slice.ensures in
+    subst (λ ws. IsAllocatable ws c.select_end.result) (sym same) (subst (λ fin. IsAllocatable (selected (λ t. Unset) xs) fin) (sym c.select_end.ensures) (selected_allocatable xs end c.requires))
 
 pub returns-clause-few : goal.returns-clause-few
 returns-clause-few c =
