@@ -1,5 +1,5 @@
 -- A group has no more words than its step costs.
-use Rattle.std.proofs.Common.{◌≡◌, ℕ, ◌+◌, ◌-◌, ◌%◌, ◌^◌, ◌≤◌, ◌==◌, Bool, true, false, not, List, [], ◌∷◌, ◌++◌, length, arith, length-append}
+use Rattle.std.proofs.Common.{ℕ, ◌+◌, ◌-◌, ◌%◌, ◌^◌, ◌≤◌, ◌==◌, Bool, true, false, not, List, [], ◌∷◌, ◌++◌, length, arith, length-append}
 use Rattle.std.specs.Prelude.{if◌then◌else◌, nat_le}
 use Rattle.word_arith.specs.Bits.{bit}
 use Rattle.limm_ir.specs.Costs.{quarter_of, quarters_not, number_cost, op_cost, step_cost, cost_of}
@@ -8,7 +8,6 @@ use Rattle.limm_ir.specs.declared.step.IrOp.{IrOp}
 use Rattle.limm_ir.specs.declared.step.IrOp.TheVariants as ops
 use Rattle.limm_ir.specs.declared.step.IrStep.{IrStep}
 use Rattle.limm_ir.specs.declared.step.IrStep.TheVariants as steps
-use Rattle.a64_code.specs.declared.instr.A64.{A64}
 use Rattle.a64_code.specs.declared.instr.A64.TheVariants as words
 use Rattle.isel.specs.Groups.{quarter_word, upper_words, number_words, op_words, last_bit, group_of, selected}
 
@@ -21,8 +20,14 @@ quarter_few bits d v k = by (quarter_of v k == bits)
 
 upper_few : (bits d v : ℕ) → length (upper_words bits d v) ≤ quarters_not bits v
 upper_few bits d v =
-    omega (arith, quarter_few bits d v 1, quarter_few bits d v 2, quarter_few bits d v 3,
-    length-append (quarter_word bits d v 1) (quarter_word bits d v 2 ++ quarter_word bits d v 3), length-append (quarter_word bits d v 2) (quarter_word bits d v 3))
+    omega (
+      arith,
+      quarter_few bits d v 1,
+      quarter_few bits d v 2,
+      quarter_few bits d v 3,
+      length-append (quarter_word bits d v 1) (quarter_word bits d v 2 ++ quarter_word bits d v 3),
+      length-append (quarter_word bits d v 2) (quarter_word bits d v 3),
+    )
 
 number_few : (d v : ℕ) → length (number_words d v) ≤ number_cost v
 number_few d v = by (nat_le (quarters_not 0 v) (quarters_not 0xFFFF v))

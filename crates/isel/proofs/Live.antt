@@ -1,5 +1,5 @@
 -- Each number is set before it is read, and at no word are more numbers live than temporaries at its step.
-use Rattle.std.proofs.Common.{◌≡◌, ◌⊎◌, ℕ, ◌+◌, ◌-◌, ◌<◌, ◌≤◌, Bool, false, List, [], ◌∷◌, ◌++◌, map, length, Some, Contains, inl, inr, refl, sym, ap, ◌∙◌, subst, arith, append_assoc}
+use Rattle.std.proofs.Common.{◌≡◌, ◌⊎◌, ℕ, ◌+◌, ◌-◌, ◌<◌, ◌≤◌, false, List, [], ◌∷◌, ◌++◌, map, length, Some, Contains, inl, inr, refl, sym, ap, ◌∙◌, subst, arith, append_assoc}
 use Rattle.std.proofs.lemmas.List.{length-map}
 use Rattle.std.specs.Prelude.{eqb}
 use Rattle.std.specs.List.{AllByRecursion, IsDistinct}
@@ -11,9 +11,9 @@ use Rattle.limm_ir.specs.declared.block.IrEnd.TheVariants as ends
 use Rattle.limm_ir.specs.declared.step.IrStep.{IrStep}
 use Rattle.limm_ir.specs.declared.step.IrStep.TheVariants as steps
 use Rattle.a64_code.specs.declared.instr.A64.{A64}
-use Rattle.a64_table.specs.Rows.{a64_result, a64_operands}
+use Rattle.a64_table.specs.Rows.{a64_result}
 use Rattle.a64_block.specs.Registers.{numbers}
-use Rattle.a64_block.specs.Conditions.{IsSetIn, IsReadFirst, SetsFirst, Occurs, IsLiveAt, LiveAtMost, IsAllocatable, end_operands}
+use Rattle.a64_block.specs.Conditions.{IsSetIn, IsReadFirst, Occurs, IsLiveAt, LiveAtMost, IsAllocatable, end_operands}
 use Rattle.a64_block.specs.declared.block.AEnd.{AEnd}
 use Rattle.isel.specs.Groups.{last_bit, group_of, selected, selected_end}
 use Rattle.isel.proofs.Meaning.{learned}
@@ -48,7 +48,7 @@ steps_first end known [] well n high (inl low) = absurd (omega (arith, low, high
 steps_first end known [] well n high (inr h) = of_all (λ t. IsSet (known t)) (end_reads end) well.0 (n - 21) (end_uses end n h)
 steps_first end known (x ∷ xs) well n high read =
     elim (group_first (selected_end end) (λ t. last_bit (known t)) n high (selected (learn x known) xs) x (low_step known x well.1) read) [
-      inl reads ↦ of_all (λ t. IsSet (known t)) (step_reads x) well.0 (n - 21) reads
+      | inl reads ↦ of_all (λ t. IsSet (known t)) (step_reads x) well.0 (n - 21) reads
       | inr r ↦ elim (learned x known (n - 21) (steps_first end (learn x known) xs well.2 n high r.1)) [ inl is_set ↦ absurd (r.0 is_set) | inr is_set ↦ is_set ]
     ]
 
@@ -90,7 +90,7 @@ cut known [] before w behind e = absurd (no_word before w behind e)
 cut known (x ∷ xs) before w behind e =
     let g = group_of (λ t. last_bit (known t)) x in
     elim (parts g (selected (learn x known) xs) before w behind e) as (λ p. Cut known (x ∷ xs) before w behind) [
-      within right f h ↦ record { front = []; step = x; back = xs; now = known; left = before; right = right; split = refl; group = f; before_is = refl; behind_is = h }
+      | within right f h ↦ record { front = []; step = x; back = xs; now = known; left = before; right = right; split = refl; group = f; before_is = refl; behind_is = h }
       | beyond more f h ↦ let c = cut (learn x known) xs more w behind h in record {
         front = x ∷ c.front;
         step = c.step;
@@ -137,7 +137,7 @@ words_set known [] low n high h = elim h [ ]
 words_set known (x ∷ xs) low n high h =
     let last = λ (t : ℕ). last_bit (known t) in
     elim (set_append (group_of last x) (selected (learn x known) xs) n h) [
-      inl first ↦ inl (group_sets x n high (group_fine last x low.0) first)
+      | inl first ↦ inl (group_sets x n high (group_fine last x low.0) first)
       | inr second ↦ inr (words_set (learn x known) xs low.1 n high second)
     ]
 
@@ -147,7 +147,7 @@ words_occur end known [] low n high h = inr (contained (end_reads end) (n - 21) 
 words_occur end known (x ∷ xs) low n high h =
     let last = λ (t : ℕ). last_bit (known t) in
     elim (occurs_append (selected_end end) (group_of last x) (selected (learn x known) xs) n h) [
-      inl first ↦ elim (group_uses x n high (group_fine last x low.0) first) [ inl is_set ↦ inl (inl is_set) | inr reads ↦ inr (inl (contained (step_reads x) (n - 21) reads)) ]
+      | inl first ↦ elim (group_uses x n high (group_fine last x low.0) first) [ inl is_set ↦ inl (inl is_set) | inr reads ↦ inr (inl (contained (step_reads x) (n - 21) reads)) ]
       | inr second ↦ elim (words_occur end (learn x known) xs low.1 n high second) [ inl is_set ↦ inl (inr is_set) | inr reads ↦ inr (inr reads) ]
     ]
 
@@ -182,7 +182,7 @@ module _ (xs : List IrStep) (end : IrEnd) (known : ℕ → Known) (low : AllByRe
   -- set before the word or by it
   set_so_far : (n : ℕ) → 20 < n → IsSetIn before n ⊎ (a64_result numbers w ≡ Some n) → ir.IsSetIn c.front (n - 21) ⊎ (step_sets c.step ≡ Some (n - 21))
   set_so_far n high (inl h) = elim (set_append (selected known c.front) c.left n (subst (λ l. IsSetIn l n) c.before_is h)) [
-    inl first ↦ inl (words_set known c.front lows.0 n high first)
+    | inl first ↦ inl (words_set known c.front lows.0 n high first)
     | inr second ↦ inr (group_sets c.step n high fine (set_left c.left (w ∷ c.right) n second))
   ]
   set_so_far n high (inr e) = inr (group_sets c.step n high fine (set_right c.left (w ∷ c.right) n (inl e)))
@@ -192,9 +192,9 @@ module _ (xs : List IrStep) (end : IrEnd) (known : ℕ → Known) (low : AllByRe
       → (step_sets c.step ≡ Some (n - 21)) ⊎ IsRead end (c.step ∷ c.back) (n - 21)
   used n high so_far (inl e) = inl (group_sets c.step n high fine (set_right c.left (w ∷ c.right) n (inl e)))
   used n high so_far (inr h) = elim (occurs_append (selected_end end) c.right (selected (learn c.step c.now) c.back) n (subst (λ l. Occurs (selected_end end) l n) c.behind_is h)) [
-    inl first ↦ elim (group_uses c.step n high fine (occurs_right c.left (w ∷ c.right) n (inr (inr first)))) [ inl is_set ↦ inl is_set | inr reads ↦ inr (inl (contained (step_reads c.step) (n - 21) reads)) ]
+    | inl first ↦ elim (group_uses c.step n high fine (occurs_right c.left (w ∷ c.right) n (inr (inr first)))) [ inl is_set ↦ inl is_set | inr reads ↦ inr (inl (contained (step_reads c.step) (n - 21) reads)) ]
     | inr second ↦ elim (words_occur end (learn c.step c.now) c.back lows.1.1 n high second) [
-      inl again ↦ absurd (once_before c.front c.step c.back (n - 21) (subst (λ l. SetsOnce l) c.split once) so_far again)
+      | inl again ↦ absurd (once_before c.front c.step c.back (n - 21) (subst (λ l. SetsOnce l) c.split once) so_far again)
       | inr reads ↦ inr (inr reads)
     ]
   ]

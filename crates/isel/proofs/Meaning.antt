@@ -1,16 +1,15 @@
 -- The groups of all steps do what the steps do, one behind the other, and so does the block.
-use Rattle.std.proofs.Common.{◌≡◌, ◌≢◌, ◌⊎◌, ℕ, ◌+◌, ◌-◌, ◌*◌, ◌%◌, ◌^◌, ◌<◌, ◌≤◌, ◌==◌, ◌&&◌, Bool, true, false, not, List, [], ◌∷◌, ◌++◌, length, Option, Some, None, inl, inr, refl, sym, ap, ◌∙◌, subst, arith}
+use Rattle.std.proofs.Common.{◌≡◌, ◌≢◌, ◌⊎◌, ℕ, ◌+◌, ◌-◌, ◌*◌, ◌%◌, ◌^◌, ◌<◌, ◌==◌, ◌&&◌, Bool, true, false, not, List, [], ◌∷◌, ◌++◌, length, Option, Some, None, inl, inr, refl, sym, ap, ◌∙◌, subst, arith}
 use Rattle.std.specs.Prelude.{if◌then◌else◌, pos, bit_or}
 use Rattle.std.specs.List.{AllByRecursion}
 use Rattle.std.proofs.lemmas.Bool.{eqb-true}
-use Rattle.ev_graph.specs.declared.events.Item.{Item}
 use Rattle.ev_graph.specs.declared.events.Item.TheVariants as items
 use Rattle.ev_graph.specs.declared.events.AccessKind.TheVariants.{Read, Write}
 use Rattle.ev_graph.specs.declared.events.TrapKind.{TrapKind}
 use Rattle.ev_graph.specs.declared.events.TrapKind.TheVariants as kinds
 use Rattle.behavior.specs.Tree.{Tree, Next, Acts, ◌then◌, ticks}
-use Rattle.behavior.specs.Acts.{put, Permission, goes, traps, access, makes, reads, writes, locked_write, exchanges, takes_in, puts_out}
-use Rattle.behavior.specs.Leaving.{ToBlock, ToReturn, ToEntry, Left, SameLeft, leaves}
+use Rattle.behavior.specs.Acts.{put, Permission, goes, traps, access, makes, reads, writes, locked_write, exchanges}
+use Rattle.behavior.specs.Leaving.{ToBlock, ToReturn, ToEntry, Left, SameLeft}
 use Rattle.behavior.specs.Seen.{lowered}
 use Rattle.behavior.specs.Kept.{SameNext, both-go, both-stop, Keeps}
 use Rattle.behavior.proofs.Paths.{then-assoc}
@@ -32,13 +31,11 @@ use Rattle.limm_ir.specs.declared.step.RmwOp.{RmwOp}
 use Rattle.limm_ir.specs.declared.step.RmwOp.TheVariants as rmw
 use Rattle.limm_ir.specs.declared.step.IrStep.{IrStep}
 use Rattle.limm_ir.specs.declared.step.IrStep.TheVariants as steps
-use Rattle.a64_code.specs.declared.instr.A64.{A64}
 use Rattle.a64_code.specs.declared.instr.A64.TheVariants as words
-use Rattle.a64_table.specs.declared.state.Nzcv.{Nzcv}
 use Rattle.a64_table.specs.declared.state.Done.{Done}
 use Rattle.a64_table.specs.State.{AState, value, after}
 use Rattle.a64_table.specs.Values.{low, shifted, holds, subs_flags}
-use Rattle.a64_table.specs.Rows.{gets, jumps, branches, breaks, ahead, a64_result, a64_words}
+use Rattle.a64_table.specs.Rows.{gets, jumps, breaks, ahead, a64_words}
 use Rattle.a64_table.proofs.CallerLemmas.{words-append}
 use Rattle.a64_block.specs.Registers.{numbers}
 use Rattle.a64_block.specs.Blocks.{a64_end, a64_block}
@@ -47,8 +44,8 @@ use Rattle.isel.specs.Ranges.{Fits}
 use Rattle.isel.specs.Selected.{SameNumbered, MeansSteps}
 use Rattle.isel.proofs.Banks.{put_here}
 use Rattle.isel.proofs.Numbered.{Numbered, Moved, number_is, reads_temp, temp_fits, reads_reg, reg_fits, reads_flag, flag_fits, kept, scratch, wrote_temp, wrote_reg, wrote_flag}
-use Rattle.isel.proofs.Values.{low_is, copied, plain, size_fits, not_equal}
-use Rattle.isel.proofs.Operations.{Does, only_set, computes, op_step, compared_state}
+use Rattle.isel.proofs.Values.{low_is, copied, size_fits, not_equal}
+use Rattle.isel.proofs.Operations.{Does, only_set, computes, op_step}
 use Rattle.isel.proofs.NumberWords.{number_step}
 
 -- both trees make the same choice, and else trap as an access that is not allowed
@@ -98,6 +95,7 @@ module _ (may : Permission) (known : ℕ → Known) (i : IrState) (s : AState) (
       chosen : (p q : Bool) (x y u v : ℕ) → p ≡ not q → x ≡ u → y ≡ v → (if p then x else y) ≡ (if q then v else u)
       chosen p true x y u v e f g = rw e g
       chosen p false x y u v e f g = rw e f
+
       chosen_fits : (q : Bool) (u v : ℕ) → u < 2 ^ 64 → v < 2 ^ 64 → (if q then u else v) < 2 ^ 64
       chosen_fits true u v p q = p
       chosen_fits false u v p q = q

@@ -1,17 +1,17 @@
 -- Numbers that hold what is known, through the writes of words.
-use Rattle.std.proofs.Common.{◌≡◌, ◌≢◌, ℕ, ◌+◌, ◌^◌, ◌<◌, ◌≤◌, ◌==◌, Bool, true, false, Some, None, refl, sym, ap, ◌∙◌, arith}
+use Rattle.std.proofs.Common.{◌≡◌, ◌≢◌, ℕ, ◌+◌, ◌^◌, ◌<◌, ◌≤◌, ◌==◌, Bool, true, false, Some, None, refl, ap, ◌∙◌, arith}
 use Rattle.std.specs.Prelude.{if◌then◌else◌}
 use Rattle.std.proofs.lemmas.Bool.{eqb-true}
 use Rattle.std.proofs.lemmas.Bool.Decides.{nat_tests}
 use Rattle.behavior.specs.Acts.{put}
 use Rattle.limm_ir.specs.Steps.{IrState, of, set}
-use Rattle.limm_ir.specs.Conditions.{Known, Unset, Set, Constant, IsSet, know}
+use Rattle.limm_ir.specs.Conditions.{Known, Set, Constant, IsSet, know}
 use Rattle.limm_ir.specs.declared.step.Temp.{Temp}
 use Rattle.a64_table.specs.declared.state.Nzcv.{Nzcv}
 use Rattle.a64_table.specs.State.{AState, value}
 use Rattle.a64_block.specs.Registers.{numbers}
 use Rattle.isel.specs.Selected.{SameNumbered}
-use Rattle.isel.proofs.Banks.{put_same, put_fit, put_here, put_other}
+use Rattle.isel.proofs.Banks.{put_same, put_fit, put_other}
 
 -- numbers hold what registers, flags and the temporaries that are set hold, and what is known of temporaries is so
 pub record Numbered (known : ℕ → Known) (i : IrState) (s : AState) : Type 0 where
@@ -106,6 +106,7 @@ module _ (known : ℕ → Known) (i : IrState) (s : AState) (here : Numbered kno
       temps_by : (u : ℕ) (b : Bool) → IsSet (if b then k else known u) → (if b then v else s.regs (21 + u)) ≡ (if b then w else i.temps u)
       temps_by u true is_set = same
       temps_by u false is_set = here.temps u is_set
+
       constants_by : (u n : ℕ) (b : Bool) → (if b then k else known u) ≡ Constant n → (if b then w else i.temps u) ≡ n
       constants_by u n true e = constant n e
       constants_by u n false e = here.constants u n e
@@ -121,6 +122,7 @@ module _ (known : ℕ → Known) (i : IrState) (s : AState) (here : Numbered kno
       temps_by : (u : ℕ) (b : Bool) → (u == t.0) ≡ b → IsSet (if b then k else known u) → s.regs (21 + u) ≡ (if b then w else i.temps u)
       temps_by u true e is_set = ap (λ n. s.regs (21 + n)) (eqb-true u t.0 e) ∙ held
       temps_by u false e is_set = here.temps u is_set
+
       constants_by : (u n : ℕ) (b : Bool) → (if b then k else known u) ≡ Constant n → (if b then w else i.temps u) ≡ n
       constants_by u n true e = constant n e
       constants_by u n false e = here.constants u n e

@@ -1,23 +1,19 @@
 -- The words of operations, of choices and of numbers do what the steps do.
-use Rattle.std.proofs.Common.{◌≡◌, ◌≢◌, ℕ, ◌+◌, ◌-◌, ◌*◌, ◌/◌, ◌%◌, ◌^◌, ◌<◌, ◌≤◌, ◌==◌, Bool, true, false, not, List, [], ◌∷◌, ◌++◌, Option, Some, None, inl, inr, refl, sym, ap, ◌∙◌, subst, arith}
-use Rattle.std.specs.Prelude.{if◌then◌else◌, nat_le, nat_lt, int_lt, pos}
-use Rattle.std.proofs.lemmas.List.{append-nil}
-use Rattle.std.proofs.lemmas.Bool.{eqb-true}
-use Rattle.std.proofs.lemmas.Bool.Decides.{nat_tests}
+use Rattle.std.proofs.Common.{◌≡◌, ℕ, ◌+◌, ◌-◌, ◌*◌, ◌%◌, ◌^◌, ◌<◌, ◌==◌, Bool, true, false, not, [], ◌∷◌, Some, inl, inr, refl, sym, ap, ◌∙◌, subst, arith}
+use Rattle.std.specs.Prelude.{if◌then◌else◌, nat_lt, int_lt, pos}
 use Rattle.std.specs.Int.Bits.{and_lt}
 use Rattle.std.proofs.lemmas.Nat.{xor_lt, or_lt}
 use Rattle.behavior.specs.Tree.{Tree, Next, ◌then◌}
 use Rattle.behavior.specs.Acts.{put, Permission, goes}
 use Rattle.behavior.specs.Seen.{lowered}
 use Rattle.behavior.specs.Kept.{SameNext, both-go}
-use Rattle.behavior.proofs.SeenLemmas.{sees-lowered}
-use Rattle.behavior.proofs.Beside.{Beside, give, spend, more_credit}
-use Rattle.word_arith.specs.Bits.{bit, insert}
+use Rattle.behavior.proofs.Beside.{Beside, give, spend}
+use Rattle.word_arith.specs.Bits.{bit}
 use Rattle.word_arith.specs.Signed.{signed}
-use Rattle.word_arith.specs.ArmWords.{bitfield_move, lslv, lsrv, asrv, rorv, madd, umulh, smulh, udiv, sdiv, subs_value}
+use Rattle.word_arith.specs.ArmWords.{bitfield_move, lslv, lsrv, asrv, rorv, udiv, sdiv, subs_value}
 use Rattle.word_arith.proofs.CallerLemmas.{low_bits_below, uxt, sxt}
 use Rattle.limm_ir.specs.Values.{op_value}
-use Rattle.limm_ir.specs.Costs.{quarter_of, quarters_not, number_cost, op_cost}
+use Rattle.limm_ir.specs.Costs.{op_cost}
 use Rattle.limm_ir.specs.Steps.{IrState, of, set}
 use Rattle.limm_ir.specs.Conditions.{Known, Unset, Set, Constant, IsSet, IsExtended, HasConstant, know}
 use Rattle.limm_ir.specs.declared.step.Temp.{Temp}
@@ -25,15 +21,14 @@ use Rattle.limm_ir.specs.declared.step.IrOp.{IrOp}
 use Rattle.limm_ir.specs.declared.step.IrOp.TheVariants as ops
 use Rattle.a64_code.specs.declared.instr.A64.{A64}
 use Rattle.a64_code.specs.declared.instr.A64.TheVariants as words
-use Rattle.a64_table.specs.declared.state.Nzcv.{Nzcv}
 use Rattle.a64_table.specs.declared.state.Done.{Done}
 use Rattle.a64_table.specs.State.{AState, value, after}
 use Rattle.a64_table.specs.Values.{low, shifted, holds, subs_flags, a64_value}
-use Rattle.a64_table.specs.Rows.{gets, computes_or, a64_act, a64_row, a64_result, ahead, a64_words}
+use Rattle.a64_table.specs.Rows.{computes_or, a64_act, a64_result, ahead, a64_words}
 use Rattle.a64_block.specs.Registers.{numbers}
-use Rattle.isel.specs.Groups.{last_bit, quarter_word, upper_words, number_words, compare_words, op_words}
-use Rattle.isel.proofs.Banks.{put_here, put_other}
-use Rattle.isel.proofs.Numbered.{Numbered, Moved, number_is, reads_temp, temp_fits, scratch, wrote_temp, holds_temp}
+use Rattle.isel.specs.Groups.{last_bit, compare_words, op_words}
+use Rattle.isel.proofs.Banks.{put_here}
+use Rattle.isel.proofs.Numbered.{Numbered, Moved, number_is, reads_temp, temp_fits, scratch, wrote_temp}
 use Rattle.isel.proofs.Values.{low_is, plain, add_is, sub_is, and_is, or_is, xor_is, both_is, shr_fits, ror_fits, high_fits, high_signed_fits, udiv_fits, sdiv_fits, bit_fits, zero_ext_fits, not_equal, at_least, signed_at_least, compared}
 
 -- the words do what the steps do, with so many instructions to spare

@@ -1,5 +1,5 @@
 -- What holds while the steps of a block are selected, one behind the other.
-use Rattle.std.proofs.Common.{◌≡◌, ℕ, ◌+◌, ◌<◌, List, [], ◌∷◌, ◌++◌, drop, take, length, get_or, refl, sym, ap, ◌∙◌, subst, arith, append_assoc, add-one, drop-cons}
+use Rattle.std.proofs.Common.{◌≡◌, ℕ, ◌+◌, ◌<◌, List, [], ◌∷◌, ◌++◌, drop, take, length, get_or, refl, sym, ap, ◌∙◌, subst, append_assoc, add-one, drop-cons}
 use Rattle.std.proofs.lemmas.List.{take_more}
 use Rattle.std.specs.List.{AllByRecursion}
 use Rattle.indexmap.specs.IndexMap.{IndexMap}
@@ -12,7 +12,7 @@ use Rattle.limm_ir.specs.declared.step.IrStep.TheVariants as steps
 use Rattle.a64_code.specs.declared.instr.A64.{A64}
 use Rattle.isel.specs.Groups.{op_words, group_of, last_bit, selected}
 use Rattle.isel.specs.Ranges.{HasSmall, Fits}
-use Rattle.isel.specs.Sizes.{kept_bit, Remembers}
+use Rattle.isel.specs.LastBits.{kept_bit, Remembers}
 
 -- what is known of temporaries, and that the words so far and those of what is left are all
 pub record Selecting {S : Type 0} (xs : List IrStep) (i : ℕ) (ws : List (A64 ℕ)) (bits : IndexMap ℕ ℕ S) : Type 0 where
@@ -92,8 +92,8 @@ module _ {S : Type 0} (xs : List IrStep) (i : ℕ) (ws : List (A64 ℕ)) (bits :
         known = learn x now.known;
         end = now.end;
         words = rw made (append_assoc ws (group_of (kept_bit bits) x) (selected (learn x now.known) (drop (i + 1) xs))
-        ∙ ap (λ g. ws ++ (g ++ selected (learn x now.known) (drop (i + 1) xs))) (group_same now.known bits x well.1 now.remembers)
-        ∙ ap (λ l. ws ++ selected now.known l) (sym left) ∙ now.words);
+            ∙ ap (λ g. ws ++ (g ++ selected (learn x now.known) (drop (i + 1) xs))) (group_same now.known bits x well.1 now.remembers)
+            ∙ ap (λ l. ws ++ selected now.known l) (sym left) ∙ now.words);
         remembers = learned now.known now.remembers;
         well = well.2;
         small = (subst (λ l. AllByRecursion HasSmall l) left now.small).1;

@@ -1,10 +1,10 @@
 -- Which temporaries the words of a group set and read: those of the step.
-use Rattle.std.proofs.Common.{◌≡◌, ◌⊎◌, ℕ, zero, suc, ◌+◌, ◌-◌, ◌%◌, ◌^◌, ◌<◌, ◌==◌, Bool, true, false, List, [], ◌∷◌, ◌++◌, length, Option, Some, None, Contains, inl, inr, refl, sym, ap, ◌∙◌, subst, arith}
-use Rattle.std.specs.Prelude.{if◌then◌else◌, nat_le, pos}
+use Rattle.std.proofs.Common.{◌≡◌, ◌⊎◌, ℕ, zero, suc, ◌+◌, ◌-◌, ◌%◌, ◌^◌, ◌<◌, ◌==◌, Bool, true, false, List, [], ◌∷◌, ◌++◌, Option, Some, None, Contains, inl, inr, refl, sym, ap, ◌∙◌, subst, arith}
+use Rattle.std.specs.Prelude.{if◌then◌else◌, nat_le}
 use Rattle.std.specs.List.{AllByRecursion}
 use Rattle.std.proofs.lemmas.List.{append-nil}
 use Rattle.limm_ir.specs.Costs.{quarter_of, quarters_not}
-use Rattle.limm_ir.specs.Conditions.{Known, InRange, step_reads, step_sets}
+use Rattle.limm_ir.specs.Conditions.{step_reads, step_sets}
 use Rattle.limm_ir.specs.declared.step.Temp.{Temp}
 use Rattle.limm_ir.specs.declared.step.IrOp.{IrOp}
 use Rattle.limm_ir.specs.declared.step.IrOp.TheVariants as ops
@@ -20,7 +20,7 @@ use Rattle.a64_table.specs.Rows.{a64_result, a64_operands}
 use Rattle.a64_block.specs.Registers.{numbers}
 use Rattle.a64_block.specs.Conditions.{IsSetIn, IsReadFirst, a64_skip}
 use Rattle.a64_block.specs.declared.block.AEnd.{AEnd}
-use Rattle.isel.specs.Groups.{trap_number, quarter_word, upper_words, number_words, compare_words, op_words, rmw_word, barrier_word, group_of}
+use Rattle.isel.specs.Groups.{quarter_word, upper_words, number_words, compare_words, op_words, rmw_word, barrier_word, group_of}
 
 -- ---- lists of temporaries
 

@@ -1,15 +1,14 @@
 -- What the words of operations compute is what the operations give.
-use Rattle.std.proofs.Common.{◌≡◌, ℕ, ◌+◌, ◌-◌, ◌*◌, ◌/◌, ◌%◌, ◌^◌, ◌<◌, ◌≤◌, ◌==◌, Bool, true, false, not, inl, inr, refl, sym, ap, ◌∙◌, subst, arith}
-use Rattle.std.specs.Prelude.{if◌then◌else◌, bit_and, bit_or, bit_xor, nat_le, nat_lt, int_lt, ℤ, pos, ◌-ℤ◌, ◌*ℤ◌, int_div}
+use Rattle.std.proofs.Common.{◌≡◌, ℕ, ◌+◌, ◌-◌, ◌*◌, ◌/◌, ◌%◌, ◌^◌, ◌<◌, ◌≤◌, ◌==◌, Bool, true, false, not, inl, inr, refl, ap, ◌∙◌, subst, arith}
+use Rattle.std.specs.Prelude.{if◌then◌else◌, bit_and, bit_or, bit_xor, nat_lt, int_lt, ◌*ℤ◌, int_div}
 use Rattle.std.specs.Int.Bits.{or_zero_l, and_lt}
 use Rattle.std.proofs.lemmas.Bool.Decides.{nat_tests}
-use Rattle.std.proofs.lemmas.Nat.{pow_pos, xor_lt, or_lt}
+use Rattle.std.proofs.lemmas.Nat.{xor_lt, or_lt}
 use Rattle.std.proofs.Math.Nat.{div-le_self, div-le_of_le-mul, mul-le-mul_left, mod-le}
-use Rattle.word_arith.specs.Width.{IsWidth}
-use Rattle.word_arith.specs.Bits.{bit, differ, top_bit, insert}
-use Rattle.word_arith.specs.Signed.{signed, fits_signed, low_bits, sign_extend}
-use Rattle.word_arith.specs.ArmWords.{bitfield_move, lslv, lsrv, asrv, rorv, madd, umulh, smulh, udiv, sdiv, subs_value}
-use Rattle.word_arith.proofs.CallerLemmas.{low_bits_below, turn_left_below, uxt, sxt, less_by_overflow}
+use Rattle.word_arith.specs.Bits.{bit}
+use Rattle.word_arith.specs.Signed.{signed, low_bits}
+use Rattle.word_arith.specs.ArmWords.{lsrv, rorv, umulh, smulh, udiv, sdiv, subs_value}
+use Rattle.word_arith.proofs.CallerLemmas.{low_bits_below, turn_left_below, less_by_overflow}
 use Rattle.limm_ir.specs.Conditions.{IsSize}
 use Rattle.a64_table.specs.Values.{low, shifted, holds, subs_flags}
 

@@ -1,5 +1,5 @@
 -- The group of words that stands for each step.
-use Rattle.std.specs.Prelude.{◌≡◌, ℕ, ◌+◌, ◌-◌, ◌*◌, ◌%◌, ◌^◌, ◌==◌, nat_le, pos, true, List, [], ◌∷◌, ◌++◌, if◌then◌else◌}
+use Rattle.std.specs.Prelude.{ℕ, ◌+◌, ◌-◌, ◌*◌, ◌%◌, ◌^◌, ◌==◌, nat_le, pos, true, List, [], ◌∷◌, ◌++◌, if◌then◌else◌}
 use Rattle.ev_graph.specs.declared.events.TrapKind.{TrapKind}
 use Rattle.ev_graph.specs.declared.events.TrapKind.TheVariants as traps
 use Rattle.limm_ir.specs.Costs.{quarter_of, quarters_not}

@@ -1,4 +1,4 @@
 pub mod Selected
 pub mod Groups
-pub mod Sizes
+pub mod LastBits
 pub mod Ranges

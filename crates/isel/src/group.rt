@@ -2,9 +2,9 @@ ghost use Rattle.std.specs.Prelude.{◌≡◌, ◌+◌, ◌*◌, ◌<◌, ◌^�
 ghost use Rattle.limm_ir.specs.Costs.{quarter_of, quarters_not};
 ghost use Rattle.isel.specs.Groups.{number_of, quarter_word, upper_words, number_words, compare_words, copy_word, op_words, rmw_word, barrier_word, trap_number, group_of};
 ghost use Rattle.isel.specs.Ranges.{IsSmall, HasSmall, Fits};
-ghost use Rattle.isel.specs.Sizes.{kept_bit};
+ghost use Rattle.isel.specs.LastBits.{kept_bit};
 
-use crate::bits::LastBits;
+use crate::last_bits::LastBits;
 use a64_code::A64;
 use ev_graph::{NoMemory, TrapKind};
 use limm_ir::{IrFence, IrOp, IrStep, RmwOp, Temp};
@@ -33,7 +33,11 @@ pub(crate) fn number_of(t: Temp) -> u32
 }
 
 /// Appends the words of one step.
-pub(crate) fn push_group(words: &mut Vec<A64<u32>>, step: IrStep, last_bits: &LastBits) -> Result<(), NoMemory>
+pub(crate) fn push_group(
+    words: &mut Vec<A64<u32>>,
+    step: IrStep,
+    last_bits: &LastBits,
+) -> Result<(), NoMemory>
     requires { HasSmall step }
     ensures words { OnOk result (words.new.items ≡ words.old.items ++ group_of (kept_bit last_bits.now.bits) step) }
     ensures fit { OnOk result (Fits step) }
@@ -44,14 +48,27 @@ pub(crate) fn push_group(words: &mut Vec<A64<u32>>, step: IrStep, last_bits: &La
         IrStep::SetReg(r, t) => words.push(copy(u32::from(r), number_of(t)))?,
         IrStep::GetFlag(t, f) => words.push(copy(number_of(t), FLAGS + u32::from(f)))?,
         IrStep::SetFlag(f, t) => words.push(copy(FLAGS + u32::from(f), number_of(t)))?,
-        IrStep::Op(op, t, a, b) => push_op(words, op, number_of(t), number_of(a), number_of(b), last_bits.of(b))?,
+        IrStep::Op(op, t, a, b) => push_op(
+            words,
+            op,
+            number_of(t),
+            number_of(a),
+            number_of(b),
+            last_bits.of(b),
+        )?,
         IrStep::Select(t, c, a, b) => {
             words.push(A64::Subs(true, ZERO, number_of(c), ZERO, 0, 0))?;
             words.push(A64::Csel(true, number_of(t), number_of(a), number_of(b), NOT_EQUAL))?;
         }
         IrStep::Load(t, a, size, _) => words.push(A64::Ldr(size, number_of(t), number_of(a), 0))?,
         IrStep::Store(a, v, size, _) => words.push(A64::Str(size, number_of(v), number_of(a), 0))?,
-        IrStep::Rmw(op, t, a, v, size, _) => words.push(locked(op, size, number_of(v), number_of(t), number_of(a)))?,
+        IrStep::Rmw(op, t, a, v, size, _) => words.push(locked(
+            op,
+            size,
+            number_of(v),
+            number_of(t),
+            number_of(a),
+        ))?,
         IrStep::Cas(t, a, e, v, size, _) => {
             words.push(copy(number_of(t), number_of(e)))?;
             words.push(A64::Cas(size, number_of(t), number_of(v), number_of(a)))?;
@@ -68,7 +85,14 @@ pub(crate) fn push_group(words: &mut Vec<A64<u32>>, step: IrStep, last_bits: &La
 }
 
 /// Appends the words of an operation; an extension keeps the bits up to `last`.
-fn push_op(words: &mut Vec<A64<u32>>, op: IrOp, d: u32, a: u32, b: u32, last: u8) -> Result<(), NoMemory>
+fn push_op(
+    words: &mut Vec<A64<u32>>,
+    op: IrOp,
+    d: u32,
+    a: u32,
+    b: u32,
+    last: u8,
+) -> Result<(), NoMemory>
     ensures { OnOk result (words.new.items ≡ words.old.items ++ op_words last op d a b) }
 {
     match op {
@@ -99,7 +123,13 @@ fn push_op(words: &mut Vec<A64<u32>>, op: IrOp, d: u32, a: u32, b: u32, last: u8
 }
 
 /// Appends a comparison, which gives 0 where the condition holds, else 1.
-fn push_compare(words: &mut Vec<A64<u32>>, condition: u8, d: u32, a: u32, b: u32) -> Result<(), NoMemory>
+fn push_compare(
+    words: &mut Vec<A64<u32>>,
+    condition: u8,
+    d: u32,
+    a: u32,
+    b: u32,
+) -> Result<(), NoMemory>
     ensures { OnOk result (words.new.items ≡ words.old.items ++ compare_words condition d a b) }
 {
     words.push(A64::Subs(true, ZERO, a, b, 0, 0))?;
@@ -133,7 +163,13 @@ fn push_upper(words: &mut Vec<A64<u32>>, bits: u16, d: u32, v: u64) -> Result<()
 }
 
 /// Appends the word for a quarter, where its 16 bits are not these.
-fn push_quarter(words: &mut Vec<A64<u32>>, bits: u16, d: u32, v: u64, quarter: u8) -> Result<(), NoMemory>
+fn push_quarter(
+    words: &mut Vec<A64<u32>>,
+    bits: u16,
+    d: u32,
+    v: u64,
+    quarter: u8,
+) -> Result<(), NoMemory>
     requires { quarter < 4 }
     ensures { OnOk result (words.new.items ≡ words.old.items ++ quarter_word bits d v quarter) }
 {

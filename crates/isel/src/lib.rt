@@ -3,8 +3,8 @@
 //! Source: instruction selection by one group of words for each operator, as in Appel, Modern Compiler Implementation, chapter 9.
 #![tactic(auto)]
 
-mod bits;
 mod group;
+mod last_bits;
 mod selecting;
 
 pub use selecting::select;

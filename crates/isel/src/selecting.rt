@@ -7,8 +7,8 @@ ghost use Rattle.isel.specs.Groups.{selected, selected_end};
 ghost use Rattle.isel.specs.Ranges.{IsSmall, HasSmall, Fits, HasSmallEnd};
 ghost use Rattle.isel.specs.Selected.{MeansSteps};
 
-use crate::bits::LastBits;
 use crate::group::{number_of, push_group};
+use crate::last_bits::LastBits;
 use a64_block::{ABlock, AEnd};
 use a64_code::A64;
 use ev_graph::{List, NoMemory};

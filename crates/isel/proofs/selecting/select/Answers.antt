@@ -1,8 +1,8 @@
-use Rattle.std.proofs.Common.{◌≡◌, ◌≤◌, length, List, sym, ap, ◌∙◌, subst}
+use Rattle.std.proofs.Common.{◌≤◌, length, sym, ap, ◌∙◌, subst}
 use Rattle.std.specs.List.{AllByRecursion}
 use Rattle.limm_ir.specs.Conditions.{Unset}
 use Rattle.limm_ir.specs.Costs.{cost_of, step_cost}
-use Rattle.isel.specs.Groups.{selected, selected_end}
+use Rattle.isel.specs.Groups.{selected}
 use Rattle.isel.specs.Ranges.{HasSmall, Fits}
 use Rattle.isel.specs.Selected.{MeansSteps}
 use Rattle.a64_block.specs.Conditions.{IsAllocatable}

@@ -1,5 +1,5 @@
 use Rattle.std.proofs.Common.{refl}
-use Rattle.isel.proofs.Steps.{Selecting, selecting_next}
+use Rattle.isel.proofs.Steps.{selecting_next}
 use Rattle.isel.proofs.selecting.select_each.Goals as goal
 
 pub loop-step-preserved : goal.loop-step-preserved

@@ -1,6 +1,6 @@
 ghost use Rattle.std.specs.Prelude.{◌≡◌, ℕ, OnOk};
 ghost use Rattle.limm_ir.specs.Conditions.{Known, Unset, IsExtended, learn};
-ghost use Rattle.isel.specs.Sizes.{kept_bit, Remembers};
+ghost use Rattle.isel.specs.LastBits.{kept_bit, Remembers};
 
 use ev_graph::NoMemory;
 use indexmap::IndexMap;
