@@ -48,27 +48,14 @@ pub(crate) fn push_group(
         IrStep::SetReg(r, t) => words.push(copy(u32::from(r), number_of(t)))?,
         IrStep::GetFlag(t, f) => words.push(copy(number_of(t), FLAGS + u32::from(f)))?,
         IrStep::SetFlag(f, t) => words.push(copy(FLAGS + u32::from(f), number_of(t)))?,
-        IrStep::Op(op, t, a, b) => push_op(
-            words,
-            op,
-            number_of(t),
-            number_of(a),
-            number_of(b),
-            last_bits.of(b),
-        )?,
+        IrStep::Op(op, t, a, b) => push_op(words, op, t, a, b, last_bits.of(b))?,
         IrStep::Select(t, c, a, b) => {
             words.push(A64::Subs(true, ZERO, number_of(c), ZERO, 0, 0))?;
             words.push(A64::Csel(true, number_of(t), number_of(a), number_of(b), NOT_EQUAL))?;
         }
         IrStep::Load(t, a, size, _) => words.push(A64::Ldr(size, number_of(t), number_of(a), 0))?,
         IrStep::Store(a, v, size, _) => words.push(A64::Str(size, number_of(v), number_of(a), 0))?,
-        IrStep::Rmw(op, t, a, v, size, _) => words.push(locked(
-            op,
-            size,
-            number_of(v),
-            number_of(t),
-            number_of(a),
-        ))?,
+        IrStep::Rmw(op, t, a, v, size, _) => words.push(locked(op, size, v, t, a))?,
         IrStep::Cas(t, a, e, v, size, _) => {
             words.push(copy(number_of(t), number_of(e)))?;
             words.push(A64::Cas(size, number_of(t), number_of(v), number_of(a)))?;
@@ -88,13 +75,17 @@ pub(crate) fn push_group(
 fn push_op(
     words: &mut Vec<A64<u32>>,
     op: IrOp,
-    d: u32,
-    a: u32,
-    b: u32,
+    t: Temp,
+    a: Temp,
+    b: Temp,
     last: u8,
 ) -> Result<(), NoMemory>
-    ensures { OnOk result (words.new.items ≡ words.old.items ++ op_words last op d a b) }
+    requires { IsSmall t.0 × IsSmall a.0 × IsSmall b.0 }
+    ensures { OnOk result (words.new.items ≡ words.old.items ++ op_words last op (number_of t) (number_of a) (number_of b)) }
 {
+    let d = number_of(t);
+    let a = number_of(a);
+    let b = number_of(b);
     match op {
         IrOp::Add => words.push(A64::Add(true, d, a, b, 0, 0))?,
         IrOp::Sub => words.push(A64::Sub(true, d, a, b, 0, 0))?,
@@ -206,15 +197,19 @@ fn copy(d: u32, n: u32) -> A64<u32>
 }
 
 /// The word of a locked step.
-fn locked(op: RmwOp, size: u8, v: u32, d: u32, a: u32) -> A64<u32>
-    ensures { result ≡ rmw_word op size v d a }
+fn locked(op: RmwOp, size: u8, v: Temp, t: Temp, a: Temp) -> A64<u32>
+    requires { IsSmall v.0 × IsSmall t.0 × IsSmall a.0 }
+    ensures { result ≡ rmw_word op size (number_of v) (number_of t) (number_of a) }
 {
+    let v = number_of(v);
+    let t = number_of(t);
+    let a = number_of(a);
     match op {
-        RmwOp::Swap => A64::Swp(size, v, d, a),
-        RmwOp::Add => A64::Ldadd(size, v, d, a),
-        RmwOp::Clear => A64::Ldclr(size, v, d, a),
-        RmwOp::Flip => A64::Ldeor(size, v, d, a),
-        RmwOp::Set => A64::Ldset(size, v, d, a),
+        RmwOp::Swap => A64::Swp(size, v, t, a),
+        RmwOp::Add => A64::Ldadd(size, v, t, a),
+        RmwOp::Clear => A64::Ldclr(size, v, t, a),
+        RmwOp::Flip => A64::Ldeor(size, v, t, a),
+        RmwOp::Set => A64::Ldset(size, v, t, a),
     }
 }
 
