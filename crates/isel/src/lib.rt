@@ -6,5 +6,7 @@
 mod group;
 mod last_bits;
 mod selecting;
+#[cfg(test)]
+mod tests;
 
 pub use selecting::select;
