@@ -1,1 +1,4 @@
 pub mod Selected
+pub mod Groups
+pub mod LastBits
+pub mod Ranges

@@ -3,6 +3,10 @@
 //! Source: instruction selection by one group of words for each operator, as in Appel, Modern Compiler Implementation, chapter 9.
 #![tactic(auto)]
 
-mod select;
+mod group;
+mod last_bits;
+mod selecting;
+#[cfg(test)]
+mod tests;
 
-pub use select::select;
+pub use selecting::select;
