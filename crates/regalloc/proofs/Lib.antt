@@ -1,1 +1,4 @@
 mod Renaming
+mod Kept
+mod Layable
+mod Numbers
