@@ -2,3 +2,4 @@ mod Renaming
 mod Kept
 mod Layable
 mod Numbers
+mod Scanning

@@ -1,7 +1,8 @@
 -- The numbers of words, and where they occur.
-use Rattle.std.proofs.Common.{◌≡◌, ◌≢◌, ◌⊎◌, inl, inr, ℕ, zero, suc, ◌+◌, ◌<◌, ◌≤◌, ◌==◌, eqb, ◌||◌, Bool, true, false, List, [], ◌∷◌, ◌++◌, length, take, drop, Option, Some, None, refl, sym, ap, ◌∙◌, subst, arith, Contains, nat_eq, unwrap_or}
+use Rattle.std.proofs.Common.{◌≡◌, ◌≢◌, ◌⊎◌, inl, inr, ℕ, zero, suc, ◌+◌, ◌<◌, ◌≤◌, ◌==◌, eqb, ◌||◌, Bool, true, false, List, [], ◌∷◌, ◌++◌, length, take, drop, Option, Some, None, refl, sym, ap, ◌∙◌, subst, arith, Contains, nat_eq, get_or, unwrap_or}
 use Rattle.std.specs.Prelude.{if◌then◌else◌}
 use Rattle.std.specs.List.{list_any}
+use Rattle.std.proofs.lemmas.List.{take_more, length-take-le}
 use Rattle.std.proofs.lemmas.Bool.{cases_eq, eqb-true, eq-eqb, true≢false, cases_Bool}
 use Rattle.a64_code.specs.declared.instr.A64.{A64}
 use Rattle.a64_code.specs.declared.instr.A64.TheVariants.{Svc}
@@ -223,3 +224,17 @@ module _ (end : AEnd ℕ) (ws : List (A64 ℕ)) (last last' : ℕ → Option ℕ
 
   pub last_of_block : AreLast end ws last'
   last_of_block = record { told = told_end; true_of = true_end }
+
+-- the last words, one word further
+pub last_step : (ws : List (A64 ℕ)) (i : ℕ) (d : A64 ℕ) (xs : List ℕ) (last last' : ℕ → Option ℕ) → i < length ws → xs ≡ mentioned (get_or ws i d)
+    → AreLastIn (take i ws) last → AreNoted i xs last last' → AreLastIn (take (i + 1) ws) last'
+last_step ws i d xs last last' within is are noted =
+    let long : length (take i ws) ≡ i = length-take-le i ws (omega (arith, within)) in
+    subst (λ l. AreLastIn l last') (sym (take_more ws i d within))
+    (last_more (take i ws) (get_or ws i d) last last' are (subst (λ k. AreNoted k (mentioned (get_or ws i d)) last last') (sym long) (subst (λ l. AreNoted i l last last') is noted)))
+
+-- the last words of a block, from those of its words
+pub last_at_end : (end : AEnd ℕ) (ws words : List (A64 ℕ)) (operand : ℕ) (last last' : ℕ → Option ℕ) → words ≡ ws → operand ≡ end_operand end
+    → AreLastIn words last → AreNoted (length words) (operand ∷ []) last last' → AreLast end ws last'
+last_at_end end ws words operand last last' same is are noted =
+    subst (λ l. AreLast end l last') same (last_of_block end words last last' are (subst (λ k. AreNoted (length words) (k ∷ []) last last') is noted))
