@@ -3,3 +3,5 @@ mod Kept
 mod Layable
 mod Numbers
 mod Scanning
+mod FreeSlots
+mod Separate

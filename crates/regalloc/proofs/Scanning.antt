@@ -1,10 +1,10 @@
 -- A scan gives temporaries that meet different slots.
-use Rattle.std.proofs.Common.{◌≡◌, ◌≢◌, ◌⊎◌, inl, inr, ℕ, zero, suc, ◌+◌, ◌<◌, ◌≤◌, ◌==◌, eqb, nat_eq, Bool, true, false, List, [], ◌∷◌, ◌++◌, length, take, drop, slice_index, Option, Some, None, refl, sym, ap, ◌∙◌, subst, arith, get_or}
-use Rattle.std.specs.Prelude.{if◌then◌else◌}
+use Rattle.std.proofs.Common.{◌≡◌, ◌≢◌, ◌⊎◌, inl, inr, ℕ, zero, suc, ◌+◌, ◌<◌, ◌≤◌, ◌==◌, eqb, nat_eq, Bool, true, false, List, [], ◌∷◌, ◌++◌, length, take, drop, slice_index, Option, Some, None, refl, sym, ap, ◌∙◌, subst, arith, get_or, set, length-set}
+use Rattle.std.specs.Option.{IsSome, is_some}
 use Rattle.std.specs.List.{AllByRecursion, IsDistinct}
 use Rattle.std.proofs.lemmas.Bool.{cases_eq, cases_lt, cases_order, true≢false, ne_eqb, eq-eqb, eqb-true}
 use Rattle.std.proofs.lemmas.Bool.Decides.{nat_tests}
-use Rattle.std.proofs.lemmas.List.{take_more, drop_more, length-drop, take-append-drop}
+use Rattle.std.proofs.lemmas.List.{take_more, drop_more, length-drop, take-append-drop, get_or-set_same, get_or-set_other}
 use Rattle.a64_code.specs.declared.instr.A64.{A64}
 use Rattle.a64_table.specs.Rows.{a64_result, a64_operands}
 use Rattle.a64_block.specs.Registers.{numbers}
@@ -214,3 +214,38 @@ module _ (end : AEnd ℕ) (ws : List (A64 ℕ)) (last : ℕ → Option ℕ) (are
 
   pub scanned_more : IsScanned end ws slots' until' (i + 1)
   scanned_more = record { eight = long; kept = kept_more; each = each_more; ends = ends_more; busy = busy_more; meet = meet_more; apart = apart_more }
+
+-- ---- what the body's calls tell
+
+-- a number that occurs has a last word
+pub reached_some : (o : Option ℕ) (k : ℕ) → Reaches o k → IsSome o
+reached_some None k none = absurd none
+reached_some (Some last) k le = refl
+
+-- a temporary that a word sets has a last word
+pub result_lasts : (end : AEnd ℕ) (ws : List (A64 ℕ)) (last : ℕ → Option ℕ) → AreLast end ws last → (i : ℕ) (w : A64 ℕ) → StandsAt ws i w
+    → (r : ℕ) → a64_result numbers w ≡ Some r → 20 < r → IsSome (last r)
+result_lasts end ws last are i w stands r is high =
+    let within = stands_within ws i w stands in
+    reached_some (last r) i (are.told r i high (omega (arith, within)) (occurs_result end ws i w stands r is))
+
+-- no test finds it
+pub is_none : (o : Option ℕ) → false ≡ is_some o → o ≡ None
+is_none None e = refl
+is_none (Some x) e = cc
+
+-- past a word whose result gets a free slot, until its last word
+pub scanned_gives : (end : AEnd ℕ) (ws : List (A64 ℕ)) (last : ℕ → Option ℕ) → AreLast end ws last → (slots : ℕ → Option ℕ) (until : List ℕ) (i : ℕ) (w : A64 ℕ) → StandsAt ws i w
+    → IsScanned end ws slots until i → (r : ℕ) → a64_result numbers w ≡ Some r → 20 < r → slots r ≡ None → (free : ℕ) → free < length until → slice_index until free ≤ i
+    → (late : ℕ) → last r ≡ Some late → (slots' : ℕ → Option ℕ) → slots' r ≡ Some free → ((n : ℕ) → eqb r n ≡ false → slots' n ≡ slots n) → IsScanned end ws slots' (set until free late) (i + 1)
+scanned_gives end ws last are slots until i w stands s r is high none free low unused late lasts slots' gives keeps =
+    scanned_more end ws last are slots until i w stands s r is high none free (omega (arith, low, s.eight)) unused late lasts slots' (set until free late) (length-set until free late ∙ s.eight) gives
+    (λ n other. keeps n (ne_eqb r n (λ same. other (sym same)))) (get_or-set_same until free late 0 low) (λ slot other. get_or-set_other until free slot late 0 other)
+
+-- a test finds it
+pub has_slot : (slots : ℕ → Option ℕ) (number r : ℕ) → number ≡ r → true ≡ is_some (slots number) → (slot : ℕ) × (slots r ≡ Some slot)
+has_slot slots number r same found = subst (λ k. (slot : ℕ) × (slots k ≡ Some slot)) same (some_value (slots number) found)
+  where
+    some_value : (o : Option ℕ) → true ≡ is_some o → (slot : ℕ) × (o ≡ Some slot)
+    some_value None e = cc
+    some_value (Some slot) e = (slot, refl)
