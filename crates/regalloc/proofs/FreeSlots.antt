@@ -7,7 +7,8 @@ use Rattle.a64_table.specs.Rows.{a64_result}
 use Rattle.a64_block.specs.Registers.{numbers}
 use Rattle.a64_block.specs.Conditions.{IsLiveAt, LiveAtMost}
 use Rattle.a64_block.specs.declared.block.AEnd.{AEnd}
-use Rattle.regalloc.specs.Slots.{StandsAt, HasFree, IsScanned}
+use Rattle.regalloc.specs.Slots.{StandsAt}
+use Rattle.regalloc.specs.Scan.{HasFree, IsScanned}
 use Rattle.regalloc.proofs.Scanning.{stands_parts}
 
 module _ (end : AEnd ℕ) (ws : List (A64 ℕ)) (slots : ℕ → Option ℕ) (until : List ℕ) (i : ℕ) (w : A64 ℕ) (stands : StandsAt ws i w) (s : IsScanned end ws slots until i) where
@@ -18,7 +19,7 @@ module _ (end : AEnd ℕ) (ws : List (A64 ℕ)) (slots : ℕ → Option ℕ) (un
   busy_next : (m : ℕ) → AllBusy m → i < slice_index until m → AllBusy (suc m)
   busy_next m all here slot lt =
       elim (cases_lt slot m) [
-        inl less ↦ all slot less
+        | inl less ↦ all slot less
         | inr le ↦ (let same : m ≡ slot = omega (arith, le, lt) in subst (λ k. i < slice_index until k) same here)
       ]
 
@@ -27,9 +28,9 @@ module _ (end : AEnd ℕ) (ws : List (A64 ℕ)) (slots : ℕ → Option ℕ) (un
   search_free zero le = inr (λ slot lt. absurd (omega (arith, lt)))
   search_free (suc m) le =
       elim (search_free m (omega (arith, le))) [
-        inl free ↦ inl free
+        | inl free ↦ inl free
         | inr all ↦ elim (cases_lt i (slice_index until m)) [
-          inl here ↦ inr (busy_next m all here)
+          | inl here ↦ inr (busy_next m all here)
           | inr free ↦ inl (m, omega (arith, le, s.eight), free)
         ]
       ]
@@ -76,7 +77,7 @@ module _ (end : AEnd ℕ) (ws : List (A64 ℕ)) (slots : ℕ → Option ℕ) (un
   pub has_free : LiveAtMost 8 end ws → (r : ℕ) → a64_result numbers w ≡ Some r → 20 < r → slots r ≡ None → HasFree until i
   has_free few r is high none =
       elim (search_free 8 (omega arith)) [
-        inl free ↦ free
+        | inl free ↦ free
         | inr busy ↦ (let h = holders 8 (omega arith) busy in
             let live = (r ∷ h.0) in
             let many = few (take i ws) w (drop (i + 1) ws) (stands_parts ws i w stands) (r ∷ h.0) (distinct_more r h.0 (new_one 8 h.0 r none h.3) h.2) ((high, inr is, inl is), live_all 8 h.0 h.3) in

@@ -103,7 +103,7 @@ module _ (g : ℕ → XReg) (naming : IsNaming g) (end : AEnd ℕ) where
   value_after d s t n None apart same = same (λ e. cc)
   value_after d s t n (Some r) apart same =
       elim (cases_eq r n) [
-        inl e ↦ subst (λ k. value numbers (record { regs = put k d.value s.regs; nzcv = d.nzcv }) n ≡ value xregs (record { regs = put (g k).number d.value t.regs; nzcv = d.nzcv }) (g n)) (sym e)
+        | inl e ↦ subst (λ k. value numbers (record { regs = put k d.value s.regs; nzcv = d.nzcv }) n ≡ value xregs (record { regs = put (g k).number d.value t.regs; nzcv = d.nzcv }) (g n)) (sym e)
             (value_set d.value d.nzcv d.nzcv s t n)
         | inr other ↦ value_kept d.value r d.nzcv d.nzcv s t n other (apart r refl other) (same (λ e. other (cc)))
       ]
@@ -139,11 +139,11 @@ module _ (g : ℕ → XReg) (naming : IsNaming g) (end : AEnd ℕ) where
       let on : Done → Tree (Next (ℕ × AState)) = λ d. a64_words numbers may (at + 4) ws (ahead d.distance) (after numbers (a64_result numbers w) d s) in
       let on' : Option XReg → Done → Tree (Next (ℕ × AState)) = λ o d. a64_words xregs may (at + 4) (map (renamed g) ws) (ahead d.distance) (after xregs o d t) in
       let both : Keeps lowered 1 0 (SameNext Landed) (Begins row then on) (Begins row then on' (option_map g (a64_result numbers w))) =
-          keeps_then lowered sees-lowered 1 0 (SameWith (SkipsBy (a64_skip w))) Landed on (on' (option_map g (a64_result numbers w)))
-          (λ d e same. subst (λ k. Keeps lowered 1 0 (SameNext Landed) (on d) (on' (option_map g (a64_result numbers w)) k)) same.0
-          (words_kept may ws apart.1 (at + 4) (ahead d.distance) (after numbers (a64_result numbers w) d s) (after xregs (option_map g (a64_result numbers w)) d t)
-          (flags_by (a64_result numbers w) d s t) (agree_after w ws d s t apart agree same.1)))
-          (word_self (SkipsBy (a64_skip w)) row (row_skips may at w (value numbers s) s.nzcv)) in
+      keeps_then lowered sees-lowered 1 0 (SameWith (SkipsBy (a64_skip w))) Landed on (on' (option_map g (a64_result numbers w)))
+      (λ d e same. subst (λ k. Keeps lowered 1 0 (SameNext Landed) (on d) (on' (option_map g (a64_result numbers w)) k)) same.0
+      (words_kept may ws apart.1 (at + 4) (ahead d.distance) (after numbers (a64_result numbers w) d s) (after xregs (option_map g (a64_result numbers w)) d t)
+      (flags_by (a64_result numbers w) d s t) (agree_after w ws d s t apart agree same.1)))
+      (word_self (SkipsBy (a64_skip w)) row (row_skips may at w (value numbers s) s.nzcv)) in
       subst (λ o. Keeps lowered 1 0 (SameNext Landed) (Begins row then on) (Begins (a64_row xregs may at (renamed g w) (value xregs t) t.nzcv) then on' o)) (sym (result-renamed g seventh first w))
       (subst (λ q. Keeps lowered 1 0 (SameNext Landed) (Begins row then on) (Begins q then on' (option_map g (a64_result numbers w)))) (sym (row_alike may at w ws s t flags agree)) both)
 
@@ -166,9 +166,9 @@ module _ (g : ℕ → XReg) (naming : IsNaming g) (end : AEnd ℕ) where
   agree_start : (ws : List (A64 ℕ)) (s t : AState) → SetsFirst end ws → SameNamed s t → Agree ws 0 s t
   agree_start ws s t sets_first same n read =
       elim (cases_order n 20) [
-        inl is ↦ both_zero s t n is
+        | inl is ↦ both_zero s t n is
         | inr rest ↦ elim rest [
-          inl low ↦ unnamed s t n low (subst (λ k. t.regs k ≡ s.regs n) (sym (naming.homes n low)) (same n low))
+          | inl low ↦ unnamed s t n low (subst (λ k. t.regs k ≡ s.regs n) (sym (naming.homes n low)) (same n low))
           | inr high ↦ absurd (sets_first n high read)
         ]
       ]

@@ -11,7 +11,7 @@ use Rattle.a64_block.specs.Registers.{numbers}
 use Rattle.a64_block.specs.Conditions.{end_operands, IsSetIn, Occurs}
 use Rattle.a64_block.specs.declared.block.AEnd.{AEnd}
 use Rattle.a64_block.specs.declared.block.AEnd.TheVariants as ends
-use Rattle.regalloc.specs.Slots.{filled, mentioned, end_operand, IsOf, IsMentioned, Reaches, AreLastIn, AreLast}
+use Rattle.regalloc.specs.Uses.{filled, mentioned, end_operand, IsOf, IsMentioned, Reaches, AreLastIn, AreLast}
 
 -- ---- membership, by the first element
 
@@ -48,7 +48,7 @@ pub among : (n : ℕ) (xs : List ℕ) → Contains xs n → list_any (nat_eq n) 
 among n [] within = absurd (contains-none n within)
 among n (x ∷ xs) within =
     elim (contains-cases x n xs within) [
-      inl is ↦ ap (λ b. b || list_any (nat_eq n) xs) (eq-eqb n x (sym is))
+      | inl is ↦ ap (λ b. b || list_any (nat_eq n) xs) (eq-eqb n x (sym is))
       | inr later ↦ or_true (nat_eq n x) (list_any (nat_eq n) xs) (among n xs later)
     ]
 
@@ -56,7 +56,7 @@ pub among_only : (n : ℕ) (xs : List ℕ) → list_any (nat_eq n) xs ≡ true �
 among_only n [] e = absurd (true≢false (sym e))
 among_only n (x ∷ xs) e =
     elim (or_cases (nat_eq n x) (list_any (nat_eq n) xs) e) [
-      inl is ↦ subst (λ k. Contains (x ∷ xs) k) (sym (eqb-true n x is)) (contains-here x xs)
+      | inl is ↦ subst (λ k. Contains (x ∷ xs) k) (sym (eqb-true n x is)) (contains-here x xs)
       | inr later ↦ contains-there x n xs (among_only n xs later)
     ]
 
@@ -65,7 +65,7 @@ filled_has n [] few within = absurd (contains-none n within)
 filled_has n (a ∷ []) few within = elim (contains-cases a n [] within) [ inl is ↦ (0, omega arith, is) | inr none ↦ absurd (contains-none n none) ]
 filled_has n (a ∷ b ∷ []) few within =
     elim (contains-cases a n (b ∷ []) within) [
-      inl is ↦ (0, omega arith, is)
+      | inl is ↦ (0, omega arith, is)
       | inr more ↦ elim (contains-cases b n [] more) [ inl is ↦ (1, omega arith, is) | inr none ↦ absurd (contains-none n none) ]
     ]
 filled_has n (a ∷ b ∷ c ∷ []) few within = within
@@ -81,7 +81,7 @@ filled_only n (a ∷ []) high few within =
     elim (contains-cases a n (20 ∷ 20 ∷ []) within) [ inl is ↦ (0, omega arith, is) | inr zeros ↦ absurd (contains-none n (not_zero n [] high (not_zero n (20 ∷ []) high zeros))) ]
 filled_only n (a ∷ b ∷ []) high few within =
     elim (contains-cases a n (b ∷ 20 ∷ []) within) [
-      inl is ↦ (0, omega arith, is)
+      | inl is ↦ (0, omega arith, is)
       | inr more ↦ elim (contains-cases b n (20 ∷ []) more) [ inl is ↦ (1, omega arith, is) | inr zeros ↦ absurd (contains-none n (not_zero n [] high zeros)) ]
     ]
 filled_only n (a ∷ b ∷ c ∷ []) high few within = within
@@ -99,7 +99,7 @@ mentioned_has w n (inr read) = contains-there (unwrap_or (a64_result numbers w) 
 mentioned_only : (w : A64 ℕ) (n : ℕ) → 20 < n → Contains (mentioned w) n → IsOf w n
 mentioned_only w n high within =
     elim (contains-cases (unwrap_or (a64_result numbers w) 20) n (filled (a64_operands numbers w)) within) [
-      inl is ↦ inl (unwrapped (a64_result numbers w) n high is)
+      | inl is ↦ inl (unwrapped (a64_result numbers w) n high is)
       | inr later ↦ inr (filled_only n (a64_operands numbers w) high (operands_few w) later)
     ]
 
@@ -168,16 +168,16 @@ mention_low (x ∷ ws) n (suc k) there = let le = mention_low ws n k there in om
 
 -- ---- the last word that has a number
 
--- numbers were noted at a place
+-- those of the numbers that are temporaries were noted at a place
 abbrev pub AreNoted : (at : ℕ) → List ℕ → (last last' : ℕ → Option ℕ) → Type 0
-AreNoted at xs last last' = (n : ℕ) → last' n ≡ (if list_any (nat_eq n) xs then Some at else last n)
+AreNoted at xs last last' = (n : ℕ) → 20 < n → last' n ≡ (if list_any (nat_eq n) xs then Some at else last n)
 
 module _ (at : ℕ) (xs : List ℕ) (last last' : ℕ → Option ℕ) (noted : AreNoted at xs last last') where
-  at_noted : (n : ℕ) → Contains xs n → last' n ≡ Some at
-  at_noted n within = noted n ∙ ap (λ b. if b then Some at else last n) (among n xs within)
+  at_noted : (n : ℕ) → 20 < n → Contains xs n → last' n ≡ Some at
+  at_noted n high within = noted n high ∙ ap (λ b. if b then Some at else last n) (among n xs within)
 
-  not_noted : (n : ℕ) → list_any (nat_eq n) xs ≡ false → last' n ≡ last n
-  not_noted n e = noted n ∙ ap (λ b. if b then Some at else last n) e
+  not_noted : (n : ℕ) → 20 < n → list_any (nat_eq n) xs ≡ false → last' n ≡ last n
+  not_noted n high e = noted n high ∙ ap (λ b. if b then Some at else last n) e
 
 -- a number is among others or is not
 decide_among : (n : ℕ) (xs : List ℕ) → Contains xs n ⊎ (list_any (nat_eq n) xs ≡ false)
@@ -190,17 +190,17 @@ module _ (ws : List (A64 ℕ)) (w : A64 ℕ) (last last' : ℕ → Option ℕ) (
   told_more : (n k : ℕ) → 20 < n → IsMentioned (drop k (ws ++ w ∷ [])) n → Reaches (last' n) k
   told_more n k high there =
       elim (decide_among n (mentioned w)) [
-        inl within ↦ subst (λ o. Reaches o k) (sym (at_noted (length ws) (mentioned w) last last' noted n within))
+        | inl within ↦ subst (λ o. Reaches o k) (sym (at_noted (length ws) (mentioned w) last last' noted n high within))
             (elim (mention-split ws w n k there) [ inl new ↦ new.0 | inr old ↦ mention_low ws n k old ])
-        | inr not_there ↦ subst (λ o. Reaches o k) (sym (not_noted (length ws) (mentioned w) last last' noted n not_there))
+        | inr not_there ↦ subst (λ o. Reaches o k) (sym (not_noted (length ws) (mentioned w) last last' noted n high not_there))
             (elim (mention-split ws w n k there) [ inl new ↦ absurd (not_among n (mentioned w) not_there (mentioned_has w n new.1)) | inr old ↦ are.told n k high old ])
       ]
 
   true_more : (n k : ℕ) → 20 < n → Reaches (last' n) k → IsMentioned (drop k (ws ++ w ∷ [])) n
   true_more n k high reaches =
       elim (decide_among n (mentioned w)) [
-        inl within ↦ mention-new ws w n k (subst (λ o. Reaches o k) (at_noted (length ws) (mentioned w) last last' noted n within) reaches) (mentioned_only w n high within)
-        | inr not_there ↦ mention-old ws w n k (are.true_of n k high (subst (λ o. Reaches o k) (not_noted (length ws) (mentioned w) last last' noted n not_there) reaches))
+        | inl within ↦ mention-new ws w n k (subst (λ o. Reaches o k) (at_noted (length ws) (mentioned w) last last' noted n high within) reaches) (mentioned_only w n high within)
+        | inr not_there ↦ mention-old ws w n k (are.true_of n k high (subst (λ o. Reaches o k) (not_noted (length ws) (mentioned w) last last' noted n high not_there) reaches))
       ]
 
   pub last_more : AreLastIn (ws ++ w ∷ []) last'
@@ -210,16 +210,16 @@ module _ (end : AEnd ℕ) (ws : List (A64 ℕ)) (last last' : ℕ → Option ℕ
   told_end : (n k : ℕ) → 20 < n → k ≤ length ws → Occurs end (drop k ws) n → Reaches (last' n) k
   told_end n k high le there =
       elim (decide_among n (end_operand end ∷ [])) [
-        inl within ↦ subst (λ o. Reaches o k) (sym (at_noted (length ws) (end_operand end ∷ []) last last' noted n within)) le
-        | inr not_there ↦ subst (λ o. Reaches o k) (sym (not_noted (length ws) (end_operand end ∷ []) last last' noted n not_there))
+        | inl within ↦ subst (λ o. Reaches o k) (sym (at_noted (length ws) (end_operand end ∷ []) last last' noted n high within)) le
+        | inr not_there ↦ subst (λ o. Reaches o k) (sym (not_noted (length ws) (end_operand end ∷ []) last last' noted n high not_there))
             (elim (occurs_in end (drop k ws) n there) [ inl m ↦ are.told n k high m | inr e ↦ absurd (not_among n (end_operand end ∷ []) not_there (end_has end n e)) ])
       ]
 
   true_end : (n k : ℕ) → 20 < n → Reaches (last' n) k → Occurs end (drop k ws) n
   true_end n k high reaches =
       elim (decide_among n (end_operand end ∷ [])) [
-        inl within ↦ occurs_end end (drop k ws) n (end_only end n high within)
-        | inr not_there ↦ occurs_word end (drop k ws) n (are.true_of n k high (subst (λ o. Reaches o k) (not_noted (length ws) (end_operand end ∷ []) last last' noted n not_there) reaches))
+        | inl within ↦ occurs_end end (drop k ws) n (end_only end n high within)
+        | inr not_there ↦ occurs_word end (drop k ws) n (are.true_of n k high (subst (λ o. Reaches o k) (not_noted (length ws) (end_operand end ∷ []) last last' noted n high not_there) reaches))
       ]
 
   pub last_of_block : AreLast end ws last'

@@ -10,7 +10,9 @@ use Rattle.a64_table.specs.Rows.{a64_result, a64_operands}
 use Rattle.a64_block.specs.Registers.{numbers}
 use Rattle.a64_block.specs.Conditions.{end_operands, IsSetIn, Occurs, IsLiveAt, LiveAtMost}
 use Rattle.a64_block.specs.declared.block.AEnd.{AEnd}
-use Rattle.regalloc.specs.Slots.{Reaches, AreLast, StandsAt, HasFree, AreApart, IsScanned, AreSlots, AreBelow}
+use Rattle.regalloc.specs.Uses.{Reaches, AreLast}
+use Rattle.regalloc.specs.Slots.{StandsAt, AreApart, AreSlots, AreBelow}
+use Rattle.regalloc.specs.Scan.{HasFree, IsScanned}
 
 -- ---- what is set among words
 
@@ -63,7 +65,7 @@ module _ (end : AEnd ℕ) (ws : List (A64 ℕ)) (i : ℕ) (w : A64 ℕ) (stands 
   pub set_next : (n : ℕ) → IsSetIn (take (i + 1) ws) n → IsSetIn (take i ws) n ⊎ (a64_result numbers w ≡ Some n)
   set_next n set =
       elim (set_parts (take i ws) (w ∷ []) n (subst (λ l. IsSetIn l n) (stands_take ws i w stands) set)) [
-        inl before ↦ inl before
+        | inl before ↦ inl before
         | inr now ↦ elim now [ inl is ↦ inr is | inr none ↦ absurd none ]
       ]
 
@@ -86,7 +88,7 @@ module _ (end : AEnd ℕ) (ws : List (A64 ℕ)) (slots : ℕ → Option ℕ) (un
   apart_on : AreApart end ws slots (i + 1)
   apart_on j v r n slot lt at is other set later a b =
       elim (cases_lt j i) [
-        inl less ↦ s.apart j v r n slot less at is other set later a b
+        | inl less ↦ s.apart j v r n slot less at is other set later a b
         | inr le ↦ apart_here j v r n slot le lt at is other later a b
       ]
 
@@ -131,32 +133,32 @@ module _ (end : AEnd ℕ) (ws : List (A64 ℕ)) (last : ℕ → Option ℕ) (are
   back : (n slot : ℕ) → slots' n ≡ Some slot → ((n ≡ r) × (slot ≡ free)) ⊎ (slots n ≡ Some slot)
   back n slot has =
       elim (cases_eq n r) [
-        inl same ↦ inl (same, (let e : Some slot ≡ Some free = sym has ∙ ap slots' same ∙ gives in cc))
+        | inl same ↦ inl (same, (let e : Some slot ≡ Some free = sym has ∙ ap slots' same ∙ gives in cc))
         | inr other ↦ inr (sym (keeps n other) ∙ has)
       ]
 
   kept_more : (n slot : ℕ) → slots' n ≡ Some slot → (20 < n) × (slot < 8) × IsSetIn (take (i + 1) ws) n
   kept_more n slot has =
       elim (back n slot has) [
-        inl new ↦ (omega (arith, high, new.0), omega (arith, low, new.1), subst (λ k. IsSetIn (take (i + 1) ws) k) (sym new.0) (set_now end ws i w stands r is))
+        | inl new ↦ (omega (arith, high, new.0), omega (arith, low, new.1), subst (λ k. IsSetIn (take (i + 1) ws) k) (sym new.0) (set_now end ws i w stands r is))
         | inr before ↦ (let k = s.kept n slot before in (k.0, k.1, set_on ws i n k.2))
       ]
 
   each_more : (n : ℕ) → 20 < n → IsSetIn (take (i + 1) ws) n → (slot : ℕ) × (slots' n ≡ Some slot)
   each_more n above set =
       elim (set_next end ws i w stands n set) [
-        inl before ↦ (let h = s.each n above before in (h.0, old n h.0 h.1))
+        | inl before ↦ (let h = s.each n above before in (h.0, old n h.0 h.1))
         | inr now ↦ (free, (let e : Some n ≡ Some r = sym now ∙ is in let same : n ≡ r = cc in ap slots' same ∙ gives))
       ]
 
   ends_more : (n slot k : ℕ) → slots' n ≡ Some slot → k ≤ length ws → Occurs end (drop k ws) n → k ≤ slice_index until' slot
   ends_more n slot k has le there =
       elim (back n slot has) [
-        inl new ↦ (let reached = subst (λ o. Reaches o k) lasts (are.told r k high le (subst (λ m. Occurs end (drop k ws) m) new.0 there)) in
+        | inl new ↦ (let reached = subst (λ o. Reaches o k) lasts (are.told r k high le (subst (λ m. Occurs end (drop k ws) m) new.0 there)) in
             subst (λ f. k ≤ slice_index until' f) (sym new.1) (omega (arith, uses, reached)))
         | inr before ↦ (let bound = s.ends n slot k before le there in
             elim (cases_eq slot free) [
-              inl same ↦ subst (λ f. k ≤ slice_index until' f) (sym same) (let bound' = subst (λ f. k ≤ slice_index until f) same bound in omega (arith, uses, unused, not_early, bound'))
+              | inl same ↦ subst (λ f. k ≤ slice_index until' f) (sym same) (let bound' = subst (λ f. k ≤ slice_index until f) same bound in omega (arith, uses, unused, not_early, bound'))
               | inr other ↦ omega (arith, bound, stays slot other)
             ])
       ]
@@ -164,19 +166,19 @@ module _ (end : AEnd ℕ) (ws : List (A64 ℕ)) (last : ℕ → Option ℕ) (are
   busy_more : (slot : ℕ) → slot < 8 → i + 1 < slice_index until' slot → (n : ℕ) × (slots' n ≡ Some slot) × ((k : ℕ) → k ≤ slice_index until' slot → Occurs end (drop k ws) n)
   busy_more slot below lt =
       elim (cases_eq slot free) [
-        inl same ↦ (r, gives ∙ ap Some (sym same), λ k le. are.true_of r k high (subst (λ o. Reaches o k) (sym lasts) (omega (arith, uses, subst (λ f. k ≤ slice_index until' f) same le))))
+        | inl same ↦ (r, gives ∙ ap Some (sym same), λ k le. are.true_of r k high (subst (λ o. Reaches o k) (sym lasts) (omega (arith, uses, subst (λ f. k ≤ slice_index until' f) same le))))
         | inr other ↦ (let b = s.busy slot below (omega (arith, lt, stays slot other)) in (b.0, old b.0 slot b.1, λ k le. b.2 k (omega (arith, le, stays slot other))))
       ]
 
   meet_more : (m n slot : ℕ) → (m ≡ n → ⊥) → slots' m ≡ Some slot → slots' n ≡ Some slot → Occurs end (drop (i + 1) ws) m → Occurs end (drop (i + 1) ws) n → ⊥
   meet_more m n slot other a b there there' =
       elim (back m slot a) [
-        inl new ↦ elim (back n slot b) [
-          inl new' ↦ other (new.0 ∙ sym new'.0)
+        | inl new ↦ elim (back n slot b) [
+          | inl new' ↦ other (new.0 ∙ sym new'.0)
           | inr before' ↦ gone n (before' ∙ ap Some new.1) there'
         ]
         | inr before ↦ elim (back n slot b) [
-          inl new' ↦ gone m (before ∙ ap Some new'.1) there
+          | inl new' ↦ gone m (before ∙ ap Some new'.1) there
           | inr before' ↦ s.meet m n slot other before before' (occurs_before end ws i w stands m there) (occurs_before end ws i w stands n there')
         ]
       ]
@@ -186,9 +188,9 @@ module _ (end : AEnd ℕ) (ws : List (A64 ℕ)) (last : ℕ → Option ℕ) (are
       → IsSetIn (take j ws) n → Occurs end (drop (j + 1) ws) n → slots' q ≡ Some slot → slots' n ≡ Some slot → ⊥
   apart_before j v q n slot lt at sets other set later a b =
       elim (back q slot a) [
-        inl new ↦ not_set (subst (λ k. IsSetIn (take i ws) k) new.0 (set_within ws (j + 1) i q (omega (arith, lt)) (set_now end ws j v at q sets)))
+        | inl new ↦ not_set (subst (λ k. IsSetIn (take i ws) k) new.0 (set_within ws (j + 1) i q (omega (arith, lt)) (set_now end ws j v at q sets)))
         | inr before ↦ elim (back n slot b) [
-          inl new' ↦ not_set (subst (λ k. IsSetIn (take i ws) k) new'.0 (set_within ws j i n (omega (arith, lt)) set))
+          | inl new' ↦ not_set (subst (λ k. IsSetIn (take i ws) k) new'.0 (set_within ws j i n (omega (arith, lt)) set))
           | inr before' ↦ s.apart j v q n slot lt at sets other set later before before'
         ]
       ]
@@ -198,9 +200,9 @@ module _ (end : AEnd ℕ) (ws : List (A64 ℕ)) (last : ℕ → Option ℕ) (are
   apart_now j v q n slot le lt at sets other set later a b =
       let same : j ≡ i = omega (arith, le, lt) in
       elim (back n slot b) [
-        inl new' ↦ not_set (subst (λ k. IsSetIn (take i ws) k) new'.0 (subst (λ k. IsSetIn (take k ws) n) same set))
+        | inl new' ↦ not_set (subst (λ k. IsSetIn (take i ws) k) new'.0 (subst (λ k. IsSetIn (take k ws) n) same set))
         | inr before' ↦ elim (back q slot a) [
-          inl new ↦ gone n (before' ∙ ap Some new.1) (subst (λ k. Occurs end (drop (k + 1) ws) n) same later)
+          | inl new ↦ gone n (before' ∙ ap Some new.1) (subst (λ k. Occurs end (drop (k + 1) ws) n) same later)
           | inr before ↦ apart_here end ws slots until i w stands s j v q n slot le lt at sets other later before before'
         ]
       ]
@@ -208,7 +210,7 @@ module _ (end : AEnd ℕ) (ws : List (A64 ℕ)) (last : ℕ → Option ℕ) (are
   apart_more : AreApart end ws slots' (i + 1)
   apart_more j v q n slot lt at sets other set later a b =
       elim (cases_lt j i) [
-        inl less ↦ apart_before j v q n slot less at sets other set later a b
+        | inl less ↦ apart_before j v q n slot less at sets other set later a b
         | inr le ↦ apart_now j v q n slot le lt at sets other set later a b
       ]
 

@@ -58,7 +58,7 @@ module _ (slots : ℕ → Option ℕ) (below : AreBelow slots) where
   fitting : IsFitting (register_of slots)
   fitting = record {
     registers = λ n other. elim (cases_lt 20 n) [
-      inl high ↦ subst (λ k. (k < 29) × (k ≢ 18)) (sym (number_high n high)) (temporary_fits (unwrap_or (slots n) 0) (slot_below n))
+      | inl high ↦ subst (λ k. (k < 29) × (k ≢ 18)) (sym (number_high n high)) (temporary_fits (unwrap_or (slots n) 0) (slot_below n))
       | inr le ↦ subst (λ k. (k < 29) × (k ≢ 18)) (sym (number_low n le)) (home_fits n (omega (arith, le, other)))
     ];
     none = refl;
@@ -68,12 +68,12 @@ module _ (slots : ℕ → Option ℕ) (below : AreBelow slots) where
   numbers_apart : (r n : ℕ) → (r ≡ n → ⊥) → (20 < r → 20 < n → unwrap_or (slots r) 0 ≡ unwrap_or (slots n) 0 → ⊥) → (register_of slots r).number ≢ (register_of slots n).number
   numbers_apart r n other apart same =
       elim (cases_lt 20 r) [
-        inl high ↦ elim (cases_lt 20 n) [
-          inl high' ↦ temporaries_apart (unwrap_or (slots r) 0) (unwrap_or (slots n) 0) (slot_below r) (slot_below n) (apart high high') (sym (number_high r high) ∙ same ∙ number_high n high')
+        | inl high ↦ elim (cases_lt 20 n) [
+          | inl high' ↦ temporaries_apart (unwrap_or (slots r) 0) (unwrap_or (slots n) 0) (slot_below r) (slot_below n) (apart high high') (sym (number_high r high) ∙ same ∙ number_high n high')
           | inr le ↦ home_of_none n (unwrap_or (slots r) 0) le (slot_below r) (sym (number_low n le) ∙ sym same ∙ number_high r high)
         ]
         | inr le ↦ elim (cases_lt 20 n) [
-          inl high ↦ home_of_none r (unwrap_or (slots n) 0) le (slot_below n) (sym (number_low r le) ∙ same ∙ number_high n high)
+          | inl high ↦ home_of_none r (unwrap_or (slots n) 0) le (slot_below n) (sym (number_low r le) ∙ same ∙ number_high n high)
           | inr le' ↦ homes_apart r n le le' other (sym (number_low r le) ∙ same ∙ number_low n le')
         ]
       ]
@@ -101,9 +101,9 @@ decide_set : (ws : List (A64 ℕ)) (n : ℕ) → IsSetIn ws n ⊎ (IsSetIn ws n 
 decide_set [] n = inr (λ none. none)
 decide_set (w ∷ ws) n =
     elim (decide_result (a64_result numbers w) n) [
-      inl is ↦ inl (inl is)
+      | inl is ↦ inl (inl is)
       | inr other ↦ elim (decide_set ws n) [
-        inl later ↦ inl (inr later)
+        | inl later ↦ inl (inr later)
         | inr never ↦ inr (λ set. elim set [ inl is ↦ other is | inr later ↦ never later ])
       ]
     ]
@@ -119,7 +119,7 @@ module _ (ws : List (A64 ℕ)) (end : AEnd ℕ) (slots : ℕ → Option ℕ) (se
       → IsReadFirst end behind 0 n ⊎ IsReadFirst end behind (a64_skip w) n → IsSetIn before n
   set_before before w behind n is high other read =
       elim (decide_set before n) [
-        inl set ↦ set
+        | inl set ↦ set
         | inr never ↦ absurd (sets_first n high (subst (λ l. IsReadFirst end l 0 n) (sym is) (read_from_start end before (w ∷ behind) n never (inr (other, read)))))
       ]
 
@@ -141,9 +141,10 @@ module _ (ws : List (A64 ℕ)) (end : AEnd ℕ) (slots : ℕ → Option ℕ) (se
 
   apart_from : (before rest : List (A64 ℕ)) → ws ≡ before ++ rest → AreApartBy (register_of slots) end rest
   apart_from before [] is = tt
-  apart_from before (w ∷ rest) is =
-      ((λ r n sets other read. numbers_apart slots are.below r n other (slots_apart before w rest r n is sets other read)),
-      apart_from (before ++ w ∷ []) rest (is ∙ sym (append_assoc before (w ∷ []) rest)))
+  apart_from before (w ∷ rest) is = (
+    (λ r n sets other read. numbers_apart slots are.below r n other (slots_apart before w rest r n is sets other read)),
+    apart_from (before ++ w ∷ []) rest (is ∙ sym (append_assoc before (w ∷ []) rest)),
+  )
 
   pub slots_mean : MeansNumbers ws end (map (renamed (register_of slots)) ws) (renamed_end (register_of slots) end)
   slots_mean = block_kept (register_of slots) (naming slots are.below) ws end sets_first (apart_from [] ws refl)

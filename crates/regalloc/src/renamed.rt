@@ -19,10 +19,10 @@ pub fn renamed_words(
     requires { AreBelow (get nat_eq slots.now) }
     ensures { IfOk result (λ new. new.items ≡ map (renamed (register_of (get nat_eq slots.now))) words.now) }
 {
-    let mut new = Vec::new(alloc);
-    for word in words {
-        new.push(renamed(*word, slots))?;
-    }
+    let new = words
+        .iter()
+        .map(|word| renamed(*word, slots))
+        .collect(alloc)?;
     Ok(new)
 }
 

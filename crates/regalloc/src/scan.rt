@@ -1,7 +1,9 @@
 ghost use Rattle.std.specs.Prelude.{◌≡◌, ◌+◌, ◌<◌, ◌≤◌, nat_eq, length, slice_index, Some, IsSome, IfOk, OnOk};
 ghost use Rattle.indexmap.specs.IndexMap.{get};
 ghost use Rattle.a64_block.specs.Conditions.{LiveAtMost};
-ghost use Rattle.regalloc.specs.Slots.{AreLast, AreSlots, HasFree, IsScanned, StandsAt};
+ghost use Rattle.regalloc.specs.Uses.{AreLast};
+ghost use Rattle.regalloc.specs.Slots.{AreSlots, StandsAt};
+ghost use Rattle.regalloc.specs.Scan.{HasFree, IsScanned};
 
 use crate::registers::{SLOTS, ZERO};
 use crate::words::result_of;
@@ -35,13 +37,13 @@ pub fn assign_slots(
         until: [0; SLOTS],
     };
     for (at, word) in block.steps.as_slice().iter().enumerate() {
-        pass(&mut state, block, last, *word, at)?;
+        scan_word(&mut state, block, last, *word, at)?;
     }
     Ok(state.slots)
 }
 
 /// Gives the word's result a slot that no number needs any more, if it is a temporary that has none.
-fn pass(
+fn scan_word(
     state: &mut Scan,
     block: &ABlock<u32>,
     last: &IndexMap<u32, usize>,

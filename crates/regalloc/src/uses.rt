@@ -1,7 +1,7 @@
-ghost use Rattle.std.specs.Prelude.{◌≡◌, ℕ, Some, nat_eq, IfOk, OnOk, if◌then◌else◌};
+ghost use Rattle.std.specs.Prelude.{◌≡◌, ◌<◌, ℕ, Some, nat_eq, IfOk, OnOk, if◌then◌else◌};
 ghost use Rattle.std.specs.List.{list_any};
 ghost use Rattle.indexmap.specs.IndexMap.{get};
-ghost use Rattle.regalloc.specs.Slots.{AreLast, AreLastIn, end_operand};
+ghost use Rattle.regalloc.specs.Uses.{AreLast, AreLastIn, end_operand};
 
 use crate::registers::ZERO;
 use crate::words::numbers_of;
@@ -11,7 +11,8 @@ use ev_graph::NoMemory;
 use indexmap::IndexMap;
 use std::alloc::Global;
 
-/// For each number of a block, the index of the last word that has it; the end counts as one more word.
+/// For each temporary of a block, the index of the last word that has it; the end counts as one more
+/// word.
 pub fn last_uses(alloc: Global, block: &ABlock<u32>) -> Result<IndexMap<u32, usize>, NoMemory>
     ensures { IfOk result (λ last. AreLast block.now.end block.now.steps (get nat_eq last)) }
 {
@@ -32,12 +33,14 @@ fn last_in_words(alloc: Global, words: &[A64<u32>]) -> Result<IndexMap<u32, usiz
     Ok(last)
 }
 
-/// Notes that numbers occur at a place.
+/// Notes that those of the numbers that are temporaries occur at a place.
 fn note_each(last: &mut IndexMap<u32, usize>, numbers: &[u32], at: usize) -> Result<(), NoMemory>
-    ensures { OnOk result ((n : ℕ) → get nat_eq last.new n ≡ (if list_any (nat_eq n) numbers.now then Some at else get nat_eq last.old n)) }
+    ensures { OnOk result ((n : ℕ) → 20 < n → get nat_eq last.new n ≡ (if list_any (nat_eq n) numbers.now then Some at else get nat_eq last.old n)) }
 {
     for number in numbers {
-        last.insert(*number, at)?;
+        if *number > ZERO {
+            last.insert(*number, at)?;
+        }
     }
     Ok(())
 }

@@ -1,7 +1,7 @@
 ghost use Rattle.std.specs.Prelude.{◌≡◌};
 ghost use Rattle.a64_table.specs.Rows.{a64_result, a64_operands};
 ghost use Rattle.a64_block.specs.Registers.{numbers};
-ghost use Rattle.regalloc.specs.Slots.{filled, mentioned};
+ghost use Rattle.regalloc.specs.Uses.{filled, mentioned};
 
 use crate::registers::ZERO;
 use a64_code::A64;

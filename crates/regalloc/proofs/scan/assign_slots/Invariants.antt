@@ -1,6 +1,6 @@
 use Rattle.std.proofs.Common.{nat_eq}
 use Rattle.indexmap.specs.IndexMap.{get}
-use Rattle.regalloc.specs.Slots.{IsScanned}
+use Rattle.regalloc.specs.Scan.{IsScanned}
 use Rattle.regalloc.proofs.scan.assign_slots.Given as goal
 
 abbrev pub invariant-loop-at : goal.invariant-loop-at

@@ -1,6 +1,6 @@
 use Rattle.std.proofs.Common.{nat_eq, take}
 use Rattle.indexmap.specs.IndexMap.{get}
-use Rattle.regalloc.specs.Slots.{AreLastIn}
+use Rattle.regalloc.specs.Uses.{AreLastIn}
 use Rattle.regalloc.proofs.uses.last_in_words.Given as goal
 
 abbrev pub invariant-loop-at : goal.invariant-loop-at

@@ -5,8 +5,8 @@ use Rattle.a64_table.specs.Rows.{a64_result}
 use Rattle.a64_block.specs.Registers.{numbers}
 use Rattle.regalloc.proofs.Scanning.{scanned_on, scanned_gives, result_lasts, is_none, has_slot}
 use Rattle.regalloc.proofs.FreeSlots.{has_free}
-use Rattle.regalloc.proofs.scan.pass.Goals as goal
-use Rattle.regalloc.proofs.scan.pass.Goals.{then-number-le-ZERO-via-then-number-le-ZERO, then-number-le-ZERO-via-else-number-le-ZERO+then-contains_key}
+use Rattle.regalloc.proofs.scan.scan_word.Goals as goal
+use Rattle.regalloc.proofs.scan.scan_word.Goals.{then-number-le-ZERO-via-then-number-le-ZERO, then-number-le-ZERO-via-else-number-le-ZERO+then-contains_key}
 
 pub returns-in_default : goal.returns-in_default
 returns-in_default c =
@@ -22,9 +22,9 @@ returns-then-number-le-ZERO c =
     let other : (r : ℕ) → a64_result numbers c.args.word ≡ Some r → number ≡ r = λ r is. (let e : Some number ≡ Some r = sym c.in-Some.is ∙ c.result_of.ensures ∙ is in cc) in
     scanned_on block.end block.steps _ _ c.args.at c.args.word c.requires.stands c.requires.scanned
     (λ r is high. elim c.then-number-le-ZERO.branch [
-        then-number-le-ZERO-via-then-number-le-ZERO w ↦ absurd (omega (arith, other r is, high, w.if-number-le-ZERO.true))
-        | then-number-le-ZERO-via-else-number-le-ZERO+then-contains_key w ↦ has_slot slots number r (other r is) (w.if-contains_key.ensures)
-      ])
+      | then-number-le-ZERO-via-then-number-le-ZERO w ↦ absurd (omega (arith, other r is, high, w.if-number-le-ZERO.true))
+      | then-number-le-ZERO-via-else-number-le-ZERO+then-contains_key w ↦ has_slot slots number r (other r is) (w.if-contains_key.ensures)
+    ])
 
 pub free_slot-slot-requires : goal.free_slot-slot-requires
 free_slot-slot-requires c =
