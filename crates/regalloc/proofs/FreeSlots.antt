@@ -16,6 +16,7 @@ module _ (end : AEnd ℕ) (ws : List (A64 ℕ)) (slots : ℕ → Option ℕ) (un
   abbrev AllBusy : ℕ → Type 0
   AllBusy m = (slot : ℕ) → slot < m → i < slice_index until slot
 
+  -- one slot more
   busy_next : (m : ℕ) → AllBusy m → i < slice_index until m → AllBusy (suc m)
   busy_next m all here slot lt =
       elim (cases_lt slot m) [
@@ -39,6 +40,7 @@ module _ (end : AEnd ℕ) (ws : List (A64 ℕ)) (slots : ℕ → Option ℕ) (un
   abbrev IsHolder : ℕ → ℕ → Type 0
   IsHolder m n = ((slot : ℕ) × (slot < m) × (slots n ≡ Some slot)) × IsLiveAt end (take i ws) w (drop (i + 1) ws) n
 
+  -- below a greater number too
   holders_wider : (m : ℕ) (ns : List ℕ) → AllByRecursion (IsHolder m) ns → AllByRecursion (IsHolder (suc m)) ns
   holders_wider m [] all = tt
   holders_wider m (n ∷ ns) (((slot, lt, has), live), rest) = (((slot, omega (arith, lt), has), live), holders_wider m ns rest)
@@ -60,15 +62,18 @@ module _ (end : AEnd ℕ) (ws : List (A64 ℕ)) (slots : ℕ → Option ℕ) (un
       let known = s.kept b.0 m b.1 in
       (b.0 ∷ rest.0, ap suc rest.1, (not_among m rest.0 b.0 rest.3 b.1, rest.2), (((m, omega arith, b.1), (known.0, inl known.2, inr (b.2 (i + 1) (omega (arith, use_by))))), holders_wider m rest.0 rest.3))
 
+  -- they are live
   live_all : (m : ℕ) (ns : List ℕ) → AllByRecursion (IsHolder m) ns → AllByRecursion (IsLiveAt end (take i ws) w (drop (i + 1) ws)) ns
   live_all m [] all = tt
   live_all m (n ∷ ns) (here, rest) = (here.1, live_all m ns rest)
 
+  -- one that has no slot is none of them
   new_one : (m : ℕ) (ns : List ℕ) (r : ℕ) → slots r ≡ None → AllByRecursion (IsHolder m) ns → AllByRecursion (λ k. eqb r k ≡ false) ns
   new_one m [] r none all = tt
   new_one m (k ∷ ns) r none (((slot, lt, there), live), rest) =
       (ne_eqb r k (λ same. let e : None ≡ Some slot = sym none ∙ ap slots same ∙ there in cc), new_one m ns r none rest)
 
+  -- one more that is none of them
   distinct_more : (r : ℕ) (ns : List ℕ) → AllByRecursion (λ k. eqb r k ≡ false) ns → IsDistinct eqb ns → IsDistinct eqb (r ∷ ns)
   unfolding IsDistinct
   distinct_more r ns other rest = (other, rest)
@@ -79,7 +84,6 @@ module _ (end : AEnd ℕ) (ws : List (A64 ℕ)) (slots : ℕ → Option ℕ) (un
       elim (search_free 8 (omega arith)) [
         | inl free ↦ free
         | inr busy ↦ (let h = holders 8 (omega arith) busy in
-            let live = (r ∷ h.0) in
             let many = few (take i ws) w (drop (i + 1) ws) (stands_parts ws i w stands) (r ∷ h.0) (distinct_more r h.0 (new_one 8 h.0 r none h.3) h.2) ((high, inr is, inl is), live_all 8 h.0 h.3) in
             absurd (omega (arith, many, h.1)))
       ]

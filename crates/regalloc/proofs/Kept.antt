@@ -49,6 +49,7 @@ AreApartBy g end (w ∷ ws) =
 abbrev SameWith : (Done → Type 0) → Done → Done → Type 0
 SameWith P d e = (d ≡ e) × P d
 
+-- a tree beside itself, whose results have the property
 beside_self : (P : Done → Type 0) (credit : ℕ) (t : Tree (Next Done)) → AllResults P t → Beside lowered 1 (SameNext (SameWith P)) credit t t
 beside_self P credit (Gives (Goes d)) all = give (both-go (refl, all))
 beside_self P credit (Gives (Stops end)) all = give both-stop
@@ -65,9 +66,11 @@ module _ (g : ℕ → XReg) (naming : IsNaming g) (end : AEnd ℕ) where
   abbrev Agree : List (A64 ℕ) → (skip : ℕ) → AState → AState → Type 0
   Agree ws skip s t = (n : ℕ) → IsReadFirst end ws skip n → value numbers s n ≡ value xregs t (g n)
 
+  -- X7 is what a call puts out
   seventh : g 7 ≡ record { number = 7 }
   seventh = let e : (g 7).number ≡ 7 = naming.homes 7 (omega arith) in ap (λ k. record { number = k }) e
 
+  -- X0 is what a call takes in
   first : g 0 ≡ record { number = 0 }
   first = let e : (g 0).number ≡ 0 = naming.homes 0 (omega arith) in ap (λ k. record { number = k }) e
 
@@ -130,6 +133,7 @@ module _ (g : ℕ → XReg) (naming : IsNaming g) (end : AEnd ℕ) where
       ∙ ap (λ f. a64_row numbers may at w (λ n. value xregs t (g n)) f) flags
       ∙ sym (row_same numbers s.nzcv (value numbers s) (λ n. value xregs t (g n)) may at w (operands_agree (a64_operands numbers w) (value numbers s) (λ n. value xregs t (g n)) (λ n among. agree n (inl among))))
 
+  -- words over other registers mean the words
   words_kept : (may : Permission) (ws : List (A64 ℕ)) → AreApartBy g end ws → (at skip : ℕ) (s t : AState) → t.nzcv ≡ s.nzcv → Agree ws skip s t
       → Keeps lowered 1 0 (SameNext Landed) (a64_words numbers may at ws skip s) (a64_words xregs may at (map (renamed g) ws) skip t)
   words_kept may [] apart at skip s t flags agree = beside_keeps lowered sees-lowered 1 (SameNext Landed) {credit = 0} (give (both-go agree))
@@ -149,6 +153,7 @@ module _ (g : ℕ → XReg) (naming : IsNaming g) (end : AEnd ℕ) where
 
   -- ---- ends
 
+  -- a register of x86 is in its home
   named : (s t : AState) (n : ℕ) → n < 20 → value numbers s n ≡ value xregs t (g n) → t.regs (g n).number ≡ s.regs n
   named s t n low same = grind (arith, nat_tests, zero_number n)
 
@@ -156,9 +161,11 @@ module _ (g : ℕ → XReg) (naming : IsNaming g) (end : AEnd ℕ) where
   same_named : (s t : AState) → Agree [] 0 s t → SameNamed s t
   same_named s t agree n low = subst (λ k. t.regs k ≡ s.regs n) (naming.homes n low) (named s t n low (agree n (inl low)))
 
+  -- and the other way round
   unnamed : (s t : AState) (n : ℕ) → n < 20 → t.regs (g n).number ≡ s.regs n → value numbers s n ≡ value xregs t (g n)
   unnamed s t n low same = grind (arith, nat_tests, zero_number n)
 
+  -- the number that reads as 0 does so in its register
   both_zero : (s t : AState) (n : ℕ) → n ≡ 20 → value numbers s n ≡ value xregs t (g n)
   both_zero s t n is = grind (arith, nat_tests, zero_number n)
 
@@ -174,22 +181,23 @@ module _ (g : ℕ → XReg) (naming : IsNaming g) (end : AEnd ℕ) where
       ]
 
 module _ (g : ℕ → XReg) (naming : IsNaming g) where
-  ended : (end : AEnd ℕ) {a b : Next (Left AState)} → SameNext (SameLeft SameNamed) a b → Keeps lowered 1 0 (SameNext (SameLeft SameNamed)) (Gives a) (Gives b)
-  ended end same = beside_keeps lowered sees-lowered 1 (SameNext (SameLeft SameNamed)) {credit = 0} (give same)
+  -- both come to their results at once
+  ended : {a b : Next (Left AState)} → SameNext (SameLeft SameNamed) a b → Keeps lowered 1 0 (SameNext (SameLeft SameNamed)) (Gives a) (Gives b)
+  ended same = beside_keeps lowered sees-lowered 1 (SameNext (SameLeft SameNamed)) {credit = 0} (give same)
 
   -- an end leaves to the same target, where what it reads is in its register
   end_kept : (end : AEnd ℕ) (s t : AState) → Agree g naming end [] 0 s t → Keeps lowered 1 0 (SameNext (SameLeft SameNamed)) (a64_end numbers end s) (a64_end xregs (renamed_end g end) t)
-  end_kept (ends.Goto a) s t agree = ended (ends.Goto a) (both-go (refl, same_named g naming (ends.Goto a) s t agree))
+  end_kept (ends.Goto a) s t agree = ended (both-go (refl, same_named g naming (ends.Goto a) s t agree))
   end_kept (ends.Branch r a b) s t agree =
       let same = agree r (inr (0, omega arith, refl)) in
-      ended (ends.Branch r a b) (both-go (ap (λ v. ToBlock (if v == 0 then b else a)) (sym same), same_named g naming (ends.Branch r a b) s t agree))
+      ended (both-go (ap (λ v. ToBlock (if v == 0 then b else a)) (sym same), same_named g naming (ends.Branch r a b) s t agree))
   end_kept (ends.Return r) s t agree =
       let same = agree r (inr (0, omega arith, refl)) in
-      ended (ends.Return r) (both-go (ap ToReturn (sym same), same_named g naming (ends.Return r) s t agree))
+      ended (both-go (ap ToReturn (sym same), same_named g naming (ends.Return r) s t agree))
   end_kept (ends.Indexed r table) s t agree =
       let same = agree r (inr (0, omega arith, refl)) in
-      ended (ends.Indexed r table) (both-go (ap (ToEntry table) (sym same), same_named g naming (ends.Indexed r table) s t agree))
-  end_kept (ends.Stop kind) s t agree = ended (ends.Stop kind) both-stop
+      ended (both-go (ap (ToEntry table) (sym same), same_named g naming (ends.Indexed r table) s t agree))
+  end_kept (ends.Stop kind) s t agree = ended both-stop
 
   -- a block over other registers means the block
   pub block_kept : (ws : List (A64 ℕ)) (end : AEnd ℕ) → SetsFirst end ws → AreApartBy g end ws → MeansNumbers ws end (map (renamed g) ws) (renamed_end g end)

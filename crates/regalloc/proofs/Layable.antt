@@ -20,15 +20,18 @@ pub record IsFitting (g : ℕ → XReg) : Type 0 where
   pub none : (g 20).number ≡ 31
 
 module _ (g : ℕ → XReg) (fitting : IsFitting g) where
+  -- what can be a register is not the number that reads as 0
   some_other : (n : ℕ) → IsRegister (some_register n) → n ≢ 20
   some_other n (low, other) = grind (arith, nat_tests)
 
+  -- registers stay registers, and operands operands
   register : (n : ℕ) → IsRegister (some_register n) → IsRegister (g n)
   register n is = fitting.registers n (some_other n is)
 
   operand : (n : ℕ) → IsOperand (some_register n) → IsOperand (g n)
   operand n is = elim (cases_eq n 20) [ inl same ↦ inr (ap (λ k. (g k).number) same ∙ fitting.none) | inr other ↦ inl (fitting.registers n other) ]
 
+  -- a word that can be encoded with some registers can be with these
   encodable : (w : A64 ℕ) → IsEncodable (renamed some_register w) → IsEncodable (renamed g w)
   encodable (Add x d n m kind amount) (a, b, c, rest) = (register d a, operand n b, operand m c, rest)
   encodable (Sub x d n m kind amount) (a, b, c, rest) = (register d a, operand n b, operand m c, rest)
@@ -71,6 +74,7 @@ module _ (g : ℕ → XReg) (fitting : IsFitting g) where
   all_encodable [] all = tt
   all_encodable (w ∷ ws) (here, rest) = (encodable w here, all_encodable ws rest)
 
+  -- branches are the same
   forward : (w : A64 ℕ) → IsForward (renamed some_register w) → IsForward (renamed g w)
   forward (B distance) same = same
   forward w same = same
@@ -98,6 +102,7 @@ module _ (g : ℕ → XReg) (fitting : IsFitting g) where
   ends_fit (ends.Indexed r table) (here, rest) = (register r here, tt)
   ends_fit (ends.Stop kind) all = tt
 
+  -- a block that can be laid out with some registers can be with these
   pub layable : (ws : List (A64 ℕ)) (end : AEnd ℕ) → IsLayable (map (renamed some_register) ws) (renamed_end some_register end) → IsLayable (map (renamed g) ws) (renamed_end g end)
   layable ws end some = record {
     encodable = all_encodable ws some.encodable;

@@ -15,17 +15,17 @@ use Rattle.regalloc.specs.Uses.{filled, mentioned, end_operand, IsOf, IsMentione
 
 -- ---- membership, by the first element
 
-pub contains-here : (x : ℕ) (xs : List ℕ) → Contains (x ∷ xs) x
+contains-here : (x : ℕ) (xs : List ℕ) → Contains (x ∷ xs) x
 contains-here x xs = (0, omega arith, refl)
 
-pub contains-there : (x n : ℕ) (xs : List ℕ) → Contains xs n → Contains (x ∷ xs) n
+contains-there : (x n : ℕ) (xs : List ℕ) → Contains xs n → Contains (x ∷ xs) n
 contains-there x n xs (k, lt, is) = (suc k, omega (arith, lt), is)
 
-pub contains-cases : (x n : ℕ) (xs : List ℕ) → Contains (x ∷ xs) n → (x ≡ n) ⊎ Contains xs n
+contains-cases : (x n : ℕ) (xs : List ℕ) → Contains (x ∷ xs) n → (x ≡ n) ⊎ Contains xs n
 contains-cases x n xs (zero, lt, is) = inl is
 contains-cases x n xs (suc k, lt, is) = inr (k, omega (arith, lt), is)
 
-pub contains-none : (n : ℕ) → Contains [] n → ⊥
+contains-none : (n : ℕ) → Contains [] n → ⊥
 contains-none n (k, lt, is) = omega (arith, lt)
 
 -- ---- the numbers of a word
@@ -44,7 +44,7 @@ or_cases true b e = inl refl
 or_cases false b e = inr e
 
 -- a number is among others where the test says so
-pub among : (n : ℕ) (xs : List ℕ) → Contains xs n → list_any (nat_eq n) xs ≡ true
+among : (n : ℕ) (xs : List ℕ) → Contains xs n → list_any (nat_eq n) xs ≡ true
 among n [] within = absurd (contains-none n within)
 among n (x ∷ xs) within =
     elim (contains-cases x n xs within) [
@@ -52,7 +52,8 @@ among n (x ∷ xs) within =
       | inr later ↦ or_true (nat_eq n x) (list_any (nat_eq n) xs) (among n xs later)
     ]
 
-pub among_only : (n : ℕ) (xs : List ℕ) → list_any (nat_eq n) xs ≡ true → Contains xs n
+-- and the other way round
+among_only : (n : ℕ) (xs : List ℕ) → list_any (nat_eq n) xs ≡ true → Contains xs n
 among_only n [] e = absurd (true≢false (sym e))
 among_only n (x ∷ xs) e =
     elim (or_cases (nat_eq n x) (list_any (nat_eq n) xs) e) [
@@ -60,6 +61,7 @@ among_only n (x ∷ xs) e =
       | inr later ↦ contains-there x n xs (among_only n xs later)
     ]
 
+-- filled up, it has the numbers that it had
 filled_has : (n : ℕ) (xs : List ℕ) → length xs ≤ 3 → Contains xs n → Contains (filled xs) n
 filled_has n [] few within = absurd (contains-none n within)
 filled_has n (a ∷ []) few within = elim (contains-cases a n [] within) [ inl is ↦ (0, omega arith, is) | inr none ↦ absurd (contains-none n none) ]
@@ -75,6 +77,7 @@ filled_has n (a ∷ b ∷ c ∷ d ∷ more) few within = absurd (omega (arith, f
 not_zero : (n : ℕ) (xs : List ℕ) → 20 < n → Contains (20 ∷ xs) n → Contains xs n
 not_zero n xs high within = elim (contains-cases 20 n xs within) [ inl is ↦ absurd (omega (arith, high, is)) | inr later ↦ later ]
 
+-- and no other temporary
 filled_only : (n : ℕ) (xs : List ℕ) → 20 < n → length xs ≤ 3 → Contains (filled xs) n → Contains xs n
 filled_only n [] high few within = not_zero n [] high (not_zero n (20 ∷ []) high (not_zero n (20 ∷ 20 ∷ []) high within))
 filled_only n (a ∷ []) high few within =
@@ -87,6 +90,7 @@ filled_only n (a ∷ b ∷ []) high few within =
 filled_only n (a ∷ b ∷ c ∷ []) high few within = within
 filled_only n (a ∷ b ∷ c ∷ d ∷ more) high few within = absurd (omega (arith, few))
 
+-- a temporary that stands for a result is the result
 unwrapped : (result : Option ℕ) (n : ℕ) → 20 < n → unwrap_or result 20 ≡ n → result ≡ Some n
 unwrapped None n high is = absurd (omega (arith, high, is))
 unwrapped (Some r) n high is = ap Some is
@@ -96,6 +100,7 @@ mentioned_has : (w : A64 ℕ) (n : ℕ) → IsOf w n → Contains (mentioned w) 
 mentioned_has w n (inl set) = (0, omega arith, ap (λ o. unwrap_or o 20) set)
 mentioned_has w n (inr read) = contains-there (unwrap_or (a64_result numbers w) 20) n (filled (a64_operands numbers w)) (filled_has n (a64_operands numbers w) (operands_few w) read)
 
+-- and no other temporary
 mentioned_only : (w : A64 ℕ) (n : ℕ) → 20 < n → Contains (mentioned w) n → IsOf w n
 mentioned_only w n high within =
     elim (contains-cases (unwrap_or (a64_result numbers w) 20) n (filled (a64_operands numbers w)) within) [
@@ -103,6 +108,7 @@ mentioned_only w n high within =
       | inr later ↦ inr (filled_only n (a64_operands numbers w) high (operands_few w) later)
     ]
 
+-- the number of an end is what it reads
 end_has : (end : AEnd ℕ) (n : ℕ) → Contains (end_operands end) n → Contains (end_operand end ∷ []) n
 end_has (ends.Goto a) n within = absurd (contains-none n within)
 end_has (ends.Branch r a b) n within = within
@@ -120,27 +126,30 @@ end_only (ends.Stop kind) n high within = not_zero n [] high within
 -- ---- where numbers occur
 
 -- a number occurs in a word or in the end
-pub occurs_in : (end : AEnd ℕ) (ws : List (A64 ℕ)) (n : ℕ) → Occurs end ws n → IsMentioned ws n ⊎ Contains (end_operands end) n
+occurs_in : (end : AEnd ℕ) (ws : List (A64 ℕ)) (n : ℕ) → Occurs end ws n → IsMentioned ws n ⊎ Contains (end_operands end) n
 occurs_in end [] n read = inr read
 occurs_in end (w ∷ ws) n (inl set) = inl (inl (inl set))
 occurs_in end (w ∷ ws) n (inr (inl read)) = inl (inl (inr read))
 occurs_in end (w ∷ ws) n (inr (inr later)) = elim (occurs_in end ws n later) [ inl m ↦ inl (inr m) | inr e ↦ inr e ]
 
-pub occurs_word : (end : AEnd ℕ) (ws : List (A64 ℕ)) (n : ℕ) → IsMentioned ws n → Occurs end ws n
+-- what a word has, occurs
+occurs_word : (end : AEnd ℕ) (ws : List (A64 ℕ)) (n : ℕ) → IsMentioned ws n → Occurs end ws n
 occurs_word end [] n none = absurd none
 occurs_word end (w ∷ ws) n (inl (inl set)) = inl set
 occurs_word end (w ∷ ws) n (inl (inr read)) = inr (inl read)
 occurs_word end (w ∷ ws) n (inr later) = inr (inr (occurs_word end ws n later))
 
-pub occurs_end : (end : AEnd ℕ) (ws : List (A64 ℕ)) (n : ℕ) → Contains (end_operands end) n → Occurs end ws n
+-- what the end reads, occurs
+occurs_end : (end : AEnd ℕ) (ws : List (A64 ℕ)) (n : ℕ) → Contains (end_operands end) n → Occurs end ws n
 occurs_end end [] n read = read
 occurs_end end (w ∷ ws) n read = inr (inr (occurs_end end ws n read))
 
+-- no word has a number where there is none
 none_left : (k n : ℕ) → IsMentioned (drop k []) n → ⊥
 none_left zero n none = none
 none_left (suc k) n none = none
 
--- one word more behind words
+-- what one word more has is the word's, or was there
 mention-split : (ws : List (A64 ℕ)) (w : A64 ℕ) (n k : ℕ) → IsMentioned (drop k (ws ++ w ∷ [])) n → ((k ≤ length ws) × IsOf w n) ⊎ IsMentioned (drop k ws) n
 mention-split [] w n zero (inl is) = inl (omega arith, is)
 mention-split [] w n zero (inr none) = absurd none
@@ -149,18 +158,21 @@ mention-split (x ∷ ws) w n zero (inl is) = inr (inl is)
 mention-split (x ∷ ws) w n zero (inr later) = elim (mention-split ws w n zero later) [ inl new ↦ inl (omega arith, new.1) | inr old ↦ inr (inr old) ]
 mention-split (x ∷ ws) w n (suc k) there = elim (mention-split ws w n k there) [ inl new ↦ inl (omega (arith, new.0), new.1) | inr old ↦ inr old ]
 
+-- what was there stays
 mention-old : (ws : List (A64 ℕ)) (w : A64 ℕ) (n k : ℕ) → IsMentioned (drop k ws) n → IsMentioned (drop k (ws ++ w ∷ [])) n
 mention-old [] w n k none = absurd (none_left k n none)
 mention-old (x ∷ ws) w n zero (inl is) = inl is
 mention-old (x ∷ ws) w n zero (inr later) = inr (mention-old ws w n zero later)
 mention-old (x ∷ ws) w n (suc k) there = mention-old ws w n k there
 
+-- what the word has comes in
 mention-new : (ws : List (A64 ℕ)) (w : A64 ℕ) (n k : ℕ) → k ≤ length ws → IsOf w n → IsMentioned (drop k (ws ++ w ∷ [])) n
 mention-new [] w n zero le is = inl is
 mention-new [] w n (suc k) le is = absurd (omega (arith, le))
 mention-new (x ∷ ws) w n zero le is = inr (mention-new ws w n zero (omega arith) is)
 mention-new (x ∷ ws) w n (suc k) le is = mention-new ws w n k (omega (arith, le)) is
 
+-- beyond the words there is none
 mention_low : (ws : List (A64 ℕ)) (n k : ℕ) → IsMentioned (drop k ws) n → k ≤ length ws
 mention_low [] n k none = absurd (none_left k n none)
 mention_low (x ∷ ws) n zero there = omega arith
@@ -203,7 +215,8 @@ module _ (ws : List (A64 ℕ)) (w : A64 ℕ) (last last' : ℕ → Option ℕ) (
         | inr not_there ↦ mention-old ws w n k (are.true_of n k high (subst (λ o. Reaches o k) (not_noted (length ws) (mentioned w) last last' noted n high not_there) reaches))
       ]
 
-  pub last_more : AreLastIn (ws ++ w ∷ []) last'
+  -- one word more
+  last_more : AreLastIn (ws ++ w ∷ []) last'
   last_more = record { told = told_more; true_of = true_more }
 
 module _ (end : AEnd ℕ) (ws : List (A64 ℕ)) (last last' : ℕ → Option ℕ) (are : AreLastIn ws last) (noted : AreNoted (length ws) (end_operand end ∷ []) last last') where
@@ -222,7 +235,8 @@ module _ (end : AEnd ℕ) (ws : List (A64 ℕ)) (last last' : ℕ → Option ℕ
         | inr not_there ↦ occurs_word end (drop k ws) n (are.true_of n k high (subst (λ o. Reaches o k) (not_noted (length ws) (end_operand end ∷ []) last last' noted n high not_there) reaches))
       ]
 
-  pub last_of_block : AreLast end ws last'
+  -- and the end
+  last_of_block : AreLast end ws last'
   last_of_block = record { told = told_end; true_of = true_end }
 
 -- the last words, one word further

@@ -46,12 +46,11 @@ module _ (g : ℕ → XReg) (seventh : g 7 ≡ record { number = 7 }) (first : g
 abbrev pub SkipsBy : ℕ → Done → Type 0
 SkipsBy skip d = (ahead d.distance ≡ 0) ⊎ (ahead d.distance ≡ skip)
 
-next_word : (skip : ℕ) (v : ℕ) (f : Nzcv) → SkipsBy skip (record { distance = pos 1; value = v; nzcv = f })
-next_word skip v f = inl refl
-
+-- a branch, taken or not
 branch_skips : (taken : Bool) (distance : ℤ) (f : Nzcv) → AllResults (SkipsBy (ahead distance)) (branches taken distance f)
 branch_skips taken distance f = results_choice (SkipsBy (ahead distance)) taken (jumps distance f) (jumps (pos 1) f) (inr refl) (inl refl)
 
+-- an exchange goes on to the next word
 exchange_skips : (may : Permission) (place address size : ℕ) (new : ℕ → Option ℕ) (f : Nzcv)
     → AllResults (SkipsBy 0) (exchanges may place address size new (λ old. gets old f))
 exchange_skips may place address size new f =
@@ -93,5 +92,6 @@ computed_skips : (skip : ℕ) (computed : Option ℕ) (f : Nzcv) (act : Tree (Ne
 computed_skips skip (Some v) f act skips = inl refl
 computed_skips skip None f act skips = skips
 
+-- the row of a word leaves out none, or as many as its branch says
 pub row_skips : (may : Permission) (place : ℕ) (w : A64 ℕ) (r : ℕ → ℕ) (f : Nzcv) → AllResults (SkipsBy (a64_skip w)) (a64_row numbers may place w r f)
 row_skips may place w r f = computed_skips (a64_skip w) (a64_value w r f) f (a64_act numbers may place w r f) (act_skips may place w r f)

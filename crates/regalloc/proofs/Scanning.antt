@@ -16,6 +16,7 @@ use Rattle.regalloc.specs.Scan.{HasFree, IsScanned}
 
 -- ---- what is set among words
 
+-- what is set among words is set in one of two parts
 pub set_more : (xs ys : List (A64 ℕ)) (n : ℕ) → IsSetIn xs n ⊎ IsSetIn ys n → IsSetIn (xs ++ ys) n
 set_more [] ys n (inl none) = absurd none
 set_more [] ys n (inr there) = there
@@ -23,13 +24,14 @@ set_more (x ∷ xs) ys n (inl (inl here)) = inl here
 set_more (x ∷ xs) ys n (inl (inr later)) = inr (set_more xs ys n (inl later))
 set_more (x ∷ xs) ys n (inr there) = inr (set_more xs ys n (inr there))
 
-pub set_parts : (xs ys : List (A64 ℕ)) (n : ℕ) → IsSetIn (xs ++ ys) n → IsSetIn xs n ⊎ IsSetIn ys n
+-- and the other way round
+set_parts : (xs ys : List (A64 ℕ)) (n : ℕ) → IsSetIn (xs ++ ys) n → IsSetIn xs n ⊎ IsSetIn ys n
 set_parts [] ys n there = inr there
 set_parts (x ∷ xs) ys n (inl here) = inl (inl here)
 set_parts (x ∷ xs) ys n (inr later) = elim (set_parts xs ys n later) [ inl a ↦ inl (inr a) | inr b ↦ inr b ]
 
 -- what is set among the first words is set among more of them
-pub set_within : (ws : List (A64 ℕ)) (j i n : ℕ) → j ≤ i → IsSetIn (take j ws) n → IsSetIn (take i ws) n
+set_within : (ws : List (A64 ℕ)) (j i n : ℕ) → j ≤ i → IsSetIn (take j ws) n → IsSetIn (take i ws) n
 set_within ws zero i n le none = absurd none
 set_within [] (suc j) i n le none = absurd none
 set_within (x ∷ ws) (suc j) zero n le there = absurd (omega (arith, le))
@@ -38,14 +40,16 @@ set_within (x ∷ ws) (suc j) (suc i) n le (inr later) = inr (set_within ws j i 
 
 -- ---- a word at an index
 
-pub stands_within : (ws : List (A64 ℕ)) (i : ℕ) (w : A64 ℕ) → StandsAt ws i w → i < length ws
+-- a word stands within the words
+stands_within : (ws : List (A64 ℕ)) (i : ℕ) (w : A64 ℕ) → StandsAt ws i w → i < length ws
 stands_within ws i w stands = omega (arith, ap length stands, length-drop i ws)
 
 -- words before, the word, and words behind
 pub stands_parts : (ws : List (A64 ℕ)) (i : ℕ) (w : A64 ℕ) → StandsAt ws i w → ws ≡ take i ws ++ w ∷ drop (i + 1) ws
 stands_parts ws i w stands = sym (take-append-drop i ws) ∙ ap (λ l. take i ws ++ l) stands
 
-pub stands_take : (ws : List (A64 ℕ)) (i : ℕ) (w : A64 ℕ) → StandsAt ws i w → take (i + 1) ws ≡ take i ws ++ w ∷ []
+-- the words up to a word are those before it, and the word
+stands_take : (ws : List (A64 ℕ)) (i : ℕ) (w : A64 ℕ) → StandsAt ws i w → take (i + 1) ws ≡ take i ws ++ w ∷ []
 stands_take ws i w stands =
     let within = stands_within ws i w stands in
     let is : get_or ws i w ∷ drop (i + 1) ws ≡ w ∷ drop (i + 1) ws = sym (drop_more ws i w within) ∙ stands in
@@ -54,25 +58,26 @@ stands_take ws i w stands =
 
 module _ (end : AEnd ℕ) (ws : List (A64 ℕ)) (i : ℕ) (w : A64 ℕ) (stands : StandsAt ws i w) where
   -- what occurs behind a word occurs from the word on
-  pub occurs_before : (n : ℕ) → Occurs end (drop (i + 1) ws) n → Occurs end (drop i ws) n
+  occurs_before : (n : ℕ) → Occurs end (drop (i + 1) ws) n → Occurs end (drop i ws) n
   occurs_before n there = subst (λ l. Occurs end l n) (sym stands) (inr (inr there))
 
   -- and so does its result
-  pub occurs_result : (r : ℕ) → a64_result numbers w ≡ Some r → Occurs end (drop i ws) r
+  occurs_result : (r : ℕ) → a64_result numbers w ≡ Some r → Occurs end (drop i ws) r
   occurs_result r is = subst (λ l. Occurs end l r) (sym stands) (inl is)
 
   -- what is set up to a word is set before it, or by it
-  pub set_next : (n : ℕ) → IsSetIn (take (i + 1) ws) n → IsSetIn (take i ws) n ⊎ (a64_result numbers w ≡ Some n)
+  set_next : (n : ℕ) → IsSetIn (take (i + 1) ws) n → IsSetIn (take i ws) n ⊎ (a64_result numbers w ≡ Some n)
   set_next n set =
       elim (set_parts (take i ws) (w ∷ []) n (subst (λ l. IsSetIn l n) (stands_take ws i w stands) set)) [
         | inl before ↦ inl before
         | inr now ↦ elim now [ inl is ↦ inr is | inr none ↦ absurd none ]
       ]
 
-  pub set_now : (n : ℕ) → a64_result numbers w ≡ Some n → IsSetIn (take (i + 1) ws) n
+  -- its result is
+  set_now : (n : ℕ) → a64_result numbers w ≡ Some n → IsSetIn (take (i + 1) ws) n
   set_now n is = subst (λ l. IsSetIn l n) (sym (stands_take ws i w stands)) (set_more (take i ws) (w ∷ []) n (inr (inl is)))
 
-pub set_on : (ws : List (A64 ℕ)) (i n : ℕ) → IsSetIn (take i ws) n → IsSetIn (take (i + 1) ws) n
+set_on : (ws : List (A64 ℕ)) (i n : ℕ) → IsSetIn (take i ws) n → IsSetIn (take (i + 1) ws) n
 set_on ws i n set = set_within ws i (i + 1) n (omega arith) set
 
 -- ---- a word that needs no slot
@@ -85,6 +90,7 @@ module _ (end : AEnd ℕ) (ws : List (A64 ℕ)) (slots : ℕ → Option ℕ) (un
       let same : j ≡ i = omega (arith, le, lt) in
       s.meet r n slot other a b (subst (λ k. Occurs end (drop k ws) r) same (occurs_result end ws j v at r is)) (subst (λ k. Occurs end (drop k ws) n) same (occurs_before end ws j v at n later))
 
+  -- up to the word and at it
   apart_on : AreApart end ws slots (i + 1)
   apart_on j v r n slot lt at is other set later a b =
       elim (cases_lt j i) [
@@ -195,6 +201,7 @@ module _ (end : AEnd ℕ) (ws : List (A64 ℕ)) (last : ℕ → Option ℕ) (are
         ]
       ]
 
+  -- at this word its result has a slot of its own
   apart_now : (j : ℕ) (v : A64 ℕ) (q n slot : ℕ) → i ≤ j → j < i + 1 → StandsAt ws j v → a64_result numbers v ≡ Some q → (q ≡ n → ⊥)
       → IsSetIn (take j ws) n → Occurs end (drop (j + 1) ws) n → slots' q ≡ Some slot → slots' n ≡ Some slot → ⊥
   apart_now j v q n slot le lt at sets other set later a b =
@@ -214,13 +221,14 @@ module _ (end : AEnd ℕ) (ws : List (A64 ℕ)) (last : ℕ → Option ℕ) (are
         | inr le ↦ apart_now j v q n slot le lt at sets other set later a b
       ]
 
-  pub scanned_more : IsScanned end ws slots' until' (i + 1)
+  -- past the word
+  scanned_more : IsScanned end ws slots' until' (i + 1)
   scanned_more = record { eight = long; kept = kept_more; each = each_more; ends = ends_more; busy = busy_more; meet = meet_more; apart = apart_more }
 
 -- ---- what the body's calls tell
 
 -- a number that occurs has a last word
-pub reached_some : (o : Option ℕ) (k : ℕ) → Reaches o k → IsSome o
+reached_some : (o : Option ℕ) (k : ℕ) → Reaches o k → IsSome o
 reached_some None k none = absurd none
 reached_some (Some last) k le = refl
 

@@ -19,6 +19,7 @@ use Rattle.regalloc.proofs.Scanning.{set_more}
 
 -- ---- registers as numbers
 
+-- no two registers serve twice
 homes_apart : (r n : ℕ) → r ≤ 20 → n ≤ 20 → (r ≡ n → ⊥) → home r ≢ home n
 homes_apart r n le le' other = grind (arith, nat_tests)
 
@@ -28,6 +29,7 @@ home_of_none n slot le lt = grind (arith, nat_tests)
 temporaries_apart : (a b : ℕ) → a < 8 → b < 8 → (a ≡ b → ⊥) → temporary a ≢ temporary b
 temporaries_apart a b lt lt' other = grind (arith, nat_tests)
 
+-- each is one that words name
 home_fits : (n : ℕ) → n < 20 → (home n < 29) × (home n ≢ 18)
 home_fits n lt = (grind (arith, nat_tests), grind (arith, nat_tests))
 
@@ -42,6 +44,7 @@ module _ (slots : ℕ → Option ℕ) (below : AreBelow slots) where
   slot_below : (n : ℕ) → unwrap_or (slots n) 0 < 8
   slot_below n = value_below (slots n) (λ slot. below n slot)
 
+  -- the register of a number is its home, or that of its slot
   number_low : (n : ℕ) → n ≤ 20 → (register_of slots n).number ≡ home n
   number_low n le = grind (arith, nat_tests)
 
@@ -93,10 +96,12 @@ read_from_start : (end : AEnd ℕ) (before rest : List (A64 ℕ)) (n : ℕ) → 
 read_from_start end [] rest n not_set read = read
 read_from_start end (x ∷ before) rest n not_set read = inr ((λ is. not_set (inl is)), inl (read_from_start end before rest n (λ set. not_set (inr set)) read))
 
+-- a number is the result or is not
 decide_result : (o : Option ℕ) (n : ℕ) → (o ≡ Some n) ⊎ (o ≡ Some n → ⊥)
 decide_result None n = inr (λ e. cc)
 decide_result (Some r) n = elim (cases_eq r n) [ inl same ↦ inl (ap Some same) | inr other ↦ inr (λ e. other (cc)) ]
 
+-- a number is set among words or is not
 decide_set : (ws : List (A64 ℕ)) (n : ℕ) → IsSetIn ws n ⊎ (IsSetIn ws n → ⊥)
 decide_set [] n = inr (λ none. none)
 decide_set (w ∷ ws) n =
@@ -123,10 +128,12 @@ module _ (ws : List (A64 ℕ)) (end : AEnd ℕ) (slots : ℕ → Option ℕ) (se
         | inr never ↦ absurd (sets_first n high (subst (λ l. IsReadFirst end l 0 n) (sym is) (read_from_start end before (w ∷ behind) n never (inr (other, read)))))
       ]
 
+  -- it occurs behind the word
   occurs_behind : (w : A64 ℕ) (behind : List (A64 ℕ)) (n : ℕ) → 20 < n → IsReadFirst end behind 0 n ⊎ IsReadFirst end behind (a64_skip w) n → Occurs end behind n
   occurs_behind w behind n high (inl read) = elim (read_occurs end behind 0 n read) [ inl low ↦ absurd (omega (arith, low, high)) | inr there ↦ there ]
   occurs_behind w behind n high (inr read) = elim (read_occurs end behind (a64_skip w) n read) [ inl low ↦ absurd (omega (arith, low, high)) | inr there ↦ there ]
 
+  -- the slots of a result and of what is read behind it differ
   slots_apart : (before : List (A64 ℕ)) (w : A64 ℕ) (behind : List (A64 ℕ)) (r n : ℕ) → ws ≡ before ++ w ∷ behind → a64_result numbers w ≡ Some r → (r ≡ n → ⊥)
       → IsReadFirst end behind 0 n ⊎ IsReadFirst end behind (a64_skip w) n → 20 < r → 20 < n → unwrap_or (slots r) 0 ≡ unwrap_or (slots n) 0 → ⊥
   slots_apart before w behind r n is sets other read high high' same =
@@ -139,6 +146,7 @@ module _ (ws : List (A64 ℕ)) (end : AEnd ℕ) (slots : ℕ → Option ℕ) (se
       are.apart (length before) w r n second.0 (omega (arith, long)) (at.0 ∙ ap (λ l. w ∷ l) (sym at.1)) sets other (subst (λ l. IsSetIn l n) (sym at.2) set)
       (subst (λ l. Occurs end l n) (sym at.1) (occurs_behind w behind n high' read)) (first.1 ∙ ap Some one) second.1
 
+  -- so registers are apart where words set them
   apart_from : (before rest : List (A64 ℕ)) → ws ≡ before ++ rest → AreApartBy (register_of slots) end rest
   apart_from before [] is = tt
   apart_from before (w ∷ rest) is = (
@@ -146,7 +154,8 @@ module _ (ws : List (A64 ℕ)) (end : AEnd ℕ) (slots : ℕ → Option ℕ) (se
     apart_from (before ++ w ∷ []) rest (is ∙ sym (append_assoc before (w ∷ []) rest)),
   )
 
-  pub slots_mean : MeansNumbers ws end (map (renamed (register_of slots)) ws) (renamed_end (register_of slots) end)
+  -- the words over registers mean the words
+  slots_mean : MeansNumbers ws end (map (renamed (register_of slots)) ws) (renamed_end (register_of slots) end)
   slots_mean = block_kept (register_of slots) (naming slots are.below) ws end sets_first (apart_from [] ws refl)
 
 -- what registers by slots give, means the block
