@@ -1,18 +1,17 @@
 -- Words over other registers mean what the words mean, where the registers of what is still read are apart.
-use Rattle.std.proofs.Common.{◌≡◌, ◌≢◌, ◌⊎◌, inl, inr, ℕ, zero, suc, ◌+◌, ◌<◌, ◌==◌, eqb, cond, Bool, true, false, List, [], ◌∷◌, map, Option, Some, None, refl, sym, ap, ◌∙◌, subst, arith, Contains, length}
+use Rattle.std.proofs.Common.{◌≡◌, ◌≢◌, ◌⊎◌, inl, inr, ℕ, zero, suc, ◌+◌, ◌<◌, ◌==◌, List, [], ◌∷◌, map, Option, Some, None, refl, sym, ap, ◌∙◌, subst, arith, Contains}
 use Rattle.std.specs.Prelude.{if◌then◌else◌}
-use Rattle.std.specs.List.{AllByRecursion}
 use Rattle.std.specs.Option.{option_map}
 use Rattle.std.proofs.lemmas.Bool.{cases_eq, cases_order}
 use Rattle.std.proofs.lemmas.Bool.Decides.{nat_tests}
 use Rattle.behavior.specs.Tree.{Tree, Gives, Begins, Acts, Next, Goes, Stops, ◌then◌}
 use Rattle.behavior.specs.Acts.{Permission, put}
-use Rattle.behavior.specs.Leaving.{Left, SameLeft, Target, ToBlock, ToReturn, ToEntry}
+use Rattle.behavior.specs.Leaving.{Left, SameLeft, ToBlock, ToReturn, ToEntry}
 use Rattle.behavior.specs.Seen.{lowered}
 use Rattle.behavior.specs.Kept.{SameNext, both-go, both-stop, Keeps}
 use Rattle.behavior.proofs.SeenLemmas.{sees-lowered}
 use Rattle.behavior.proofs.Unfolding.{AllResults}
-use Rattle.behavior.proofs.Beside.{Beside, give, earn, spend, act, beside_keeps, more_credit}
+use Rattle.behavior.proofs.Beside.{Beside, give, earn, spend, act, beside_keeps}
 use Rattle.behavior.proofs.KeepsLemmas.{keeps_then}
 use Rattle.a64_code.specs.declared.instr.XReg.{XReg}
 use Rattle.a64_code.specs.declared.instr.A64.{A64}
@@ -23,8 +22,8 @@ use Rattle.a64_table.specs.Rows.{a64_row, a64_result, a64_operands, a64_words, a
 use Rattle.a64_table.proofs.OperandLemmas.{AgreeOn, row_same}
 use Rattle.a64_block.specs.Registers.{numbers, home}
 use Rattle.a64_block.specs.Renamed.{renamed, renamed_end}
-use Rattle.a64_block.specs.Blocks.{a64_end, a64_block, SameNamed}
-use Rattle.a64_block.specs.Conditions.{end_operands, a64_skip, IsReadFirst, SetsFirst}
+use Rattle.a64_block.specs.Blocks.{a64_end, SameNamed}
+use Rattle.a64_block.specs.Conditions.{a64_skip, IsReadFirst, SetsFirst}
 use Rattle.a64_block.specs.declared.block.AEnd.{AEnd}
 use Rattle.a64_block.specs.declared.block.AEnd.TheVariants as ends
 use Rattle.regalloc.specs.Allocated.{MeansNumbers}

@@ -5,3 +5,4 @@ mod Numbers
 mod Scanning
 mod FreeSlots
 mod Separate
+mod TestBlock

@@ -1,14 +1,14 @@
 -- The numbers of words, and where they occur.
-use Rattle.std.proofs.Common.{◌≡◌, ◌≢◌, ◌⊎◌, inl, inr, ℕ, zero, suc, ◌+◌, ◌<◌, ◌≤◌, ◌==◌, eqb, ◌||◌, Bool, true, false, List, [], ◌∷◌, ◌++◌, length, take, drop, Option, Some, None, refl, sym, ap, ◌∙◌, subst, arith, Contains, nat_eq, get_or, unwrap_or}
+use Rattle.std.proofs.Common.{◌≡◌, ◌⊎◌, inl, inr, ℕ, zero, suc, ◌+◌, ◌<◌, ◌≤◌, ◌||◌, Bool, true, false, List, [], ◌∷◌, ◌++◌, length, take, drop, Option, Some, None, refl, sym, ap, ◌∙◌, subst, arith, Contains, nat_eq, get_or, unwrap_or}
 use Rattle.std.specs.Prelude.{if◌then◌else◌}
 use Rattle.std.specs.List.{list_any}
 use Rattle.std.proofs.lemmas.List.{take_more, length-take-le}
-use Rattle.std.proofs.lemmas.Bool.{cases_eq, eqb-true, eq-eqb, true≢false, cases_Bool}
+use Rattle.std.proofs.lemmas.Bool.{eqb-true, eq-eqb, true≢false, cases_Bool}
 use Rattle.a64_code.specs.declared.instr.A64.{A64}
 use Rattle.a64_code.specs.declared.instr.A64.TheVariants.{Svc}
 use Rattle.a64_table.specs.Rows.{a64_result, a64_operands}
 use Rattle.a64_block.specs.Registers.{numbers}
-use Rattle.a64_block.specs.Conditions.{end_operands, IsSetIn, Occurs}
+use Rattle.a64_block.specs.Conditions.{end_operands, Occurs}
 use Rattle.a64_block.specs.declared.block.AEnd.{AEnd}
 use Rattle.a64_block.specs.declared.block.AEnd.TheVariants as ends
 use Rattle.regalloc.specs.Uses.{filled, mentioned, end_operand, IsOf, IsMentioned, Reaches, AreLastIn, AreLast}
@@ -21,11 +21,11 @@ contains-here x xs = (0, omega arith, refl)
 contains-there : (x n : ℕ) (xs : List ℕ) → Contains xs n → Contains (x ∷ xs) n
 contains-there x n xs (k, lt, is) = (suc k, omega (arith, lt), is)
 
-contains-cases : (x n : ℕ) (xs : List ℕ) → Contains (x ∷ xs) n → (x ≡ n) ⊎ Contains xs n
+pub contains-cases : (x n : ℕ) (xs : List ℕ) → Contains (x ∷ xs) n → (x ≡ n) ⊎ Contains xs n
 contains-cases x n xs (zero, lt, is) = inl is
 contains-cases x n xs (suc k, lt, is) = inr (k, omega (arith, lt), is)
 
-contains-none : (n : ℕ) → Contains [] n → ⊥
+pub contains-none : (n : ℕ) → Contains [] n → ⊥
 contains-none n (k, lt, is) = omega (arith, lt)
 
 -- ---- the numbers of a word
@@ -44,7 +44,7 @@ or_cases true b e = inl refl
 or_cases false b e = inr e
 
 -- a number is among others where the test says so
-among : (n : ℕ) (xs : List ℕ) → Contains xs n → list_any (nat_eq n) xs ≡ true
+pub among : (n : ℕ) (xs : List ℕ) → Contains xs n → list_any (nat_eq n) xs ≡ true
 among n [] within = absurd (contains-none n within)
 among n (x ∷ xs) within =
     elim (contains-cases x n xs within) [
@@ -53,7 +53,7 @@ among n (x ∷ xs) within =
     ]
 
 -- and the other way round
-among_only : (n : ℕ) (xs : List ℕ) → list_any (nat_eq n) xs ≡ true → Contains xs n
+pub among_only : (n : ℕ) (xs : List ℕ) → list_any (nat_eq n) xs ≡ true → Contains xs n
 among_only n [] e = absurd (true≢false (sym e))
 among_only n (x ∷ xs) e =
     elim (or_cases (nat_eq n x) (list_any (nat_eq n) xs) e) [

@@ -1,24 +1,22 @@
 -- A word over other registers does what the word does.
-use Rattle.std.proofs.Common.{◌≡◌, ◌≢◌, ◌⊎◌, inl, inr, ℕ, zero, suc, ◌+◌, ◌*◌, ◌%◌, ◌^◌, ◌<◌, ◌≤◌, ◌==◌, ◌&&◌, not, Bool, true, false, List, [], ◌∷◌, map, length, Option, Some, None, refl, sym, ap, ◌∙◌, subst, arith}
+use Rattle.std.proofs.Common.{◌≡◌, ◌⊎◌, inl, inr, ℕ, ◌+◌, ◌*◌, ◌%◌, ◌^◌, ◌==◌, ◌&&◌, not, Bool, true, false, [], ◌∷◌, Option, Some, None, refl, sym, ap}
 use Rattle.std.specs.Prelude.{if◌then◌else◌, ℤ, pos}
-use Rattle.std.specs.List.{AllByRecursion}
 use Rattle.std.specs.Option.{option_map}
-use mathlib.Core.Path.{fun_ext}
 use Rattle.ev_graph.specs.declared.events.AccessKind.TheVariants.{Read, Write}
 use Rattle.ev_graph.specs.declared.events.End.TheVariants.{Halted}
 use Rattle.ev_graph.specs.declared.events.TrapKind.TheVariants.{BadAccess, Divide, Invalid, BadReturn, BadJump}
-use Rattle.behavior.specs.Tree.{Tree, Gives, Acts, Next, Goes, Stops}
+use Rattle.behavior.specs.Tree.{Tree, Gives, Acts, Next, Stops}
 use Rattle.behavior.specs.Acts.{Permission, traps, access, makes, locked_write, exchanges, takes_in, puts_out}
 use Rattle.behavior.proofs.Unfolding.{AllResults, results_choice}
 use Rattle.a64_code.specs.declared.instr.XReg.{XReg}
 use Rattle.a64_code.specs.declared.instr.A64.{A64}
-use Rattle.a64_code.specs.declared.instr.A64.TheVariants.{Add, Sub, Subs, And, Orr, Eor, AddImm, SubImm, Movz, Movk, Movn, Lslv, Lsrv, Asrv, Rorv, Udiv, Sdiv, Madd, Msub, Smulh, Umulh, Ubfm, Sbfm, Csel, Csinc, B, BCond, Cbz, Cbnz, Ldr, Str, Cas, Swp, Ldadd, Ldclr, Ldeor, Ldset, DmbFull, DmbLd, DmbSt, Nop, Brk, Svc}
+use Rattle.a64_code.specs.declared.instr.A64.TheVariants.{Subs, B, BCond, Cbz, Cbnz, Ldr, Str, Cas, Swp, Ldadd, Ldclr, Ldeor, Ldset, DmbFull, DmbLd, DmbSt, Brk, Svc}
 use Rattle.a64_table.specs.declared.state.Nzcv.{Nzcv}
 use Rattle.a64_table.specs.declared.state.Done.{Done}
-use Rattle.a64_table.specs.State.{Names, xregs, AState, value}
+use Rattle.a64_table.specs.State.{xregs}
 use Rattle.a64_table.specs.Values.{low, holds, a64_value}
-use Rattle.a64_table.specs.Rows.{gets, jumps, branches, calls, computes_or, a64_written, a64_act, a64_row, a64_result, a64_operands, ahead}
-use Rattle.a64_block.specs.Registers.{numbers, home}
+use Rattle.a64_table.specs.Rows.{gets, jumps, branches, calls, computes_or, a64_written, a64_act, a64_row, a64_result, ahead}
+use Rattle.a64_block.specs.Registers.{numbers}
 use Rattle.a64_block.specs.Renamed.{renamed}
 use Rattle.a64_block.specs.Conditions.{a64_skip}
 

@@ -1,18 +1,16 @@
 -- A scan gives temporaries that meet different slots.
-use Rattle.std.proofs.Common.{◌≡◌, ◌≢◌, ◌⊎◌, inl, inr, ℕ, zero, suc, ◌+◌, ◌<◌, ◌≤◌, ◌==◌, eqb, nat_eq, Bool, true, false, List, [], ◌∷◌, ◌++◌, length, take, drop, slice_index, Option, Some, None, refl, sym, ap, ◌∙◌, subst, arith, get_or, set, length-set}
+use Rattle.std.proofs.Common.{◌≡◌, ◌⊎◌, inl, inr, ℕ, zero, suc, ◌+◌, ◌<◌, ◌≤◌, eqb, true, false, List, [], ◌∷◌, ◌++◌, length, take, drop, slice_index, Option, Some, None, refl, sym, ap, ◌∙◌, subst, arith, get_or, set, length-set}
 use Rattle.std.specs.Option.{IsSome, is_some}
-use Rattle.std.specs.List.{AllByRecursion, IsDistinct}
-use Rattle.std.proofs.lemmas.Bool.{cases_eq, cases_lt, cases_order, true≢false, ne_eqb, eq-eqb, eqb-true}
-use Rattle.std.proofs.lemmas.Bool.Decides.{nat_tests}
+use Rattle.std.proofs.lemmas.Bool.{cases_eq, cases_lt, ne_eqb}
 use Rattle.std.proofs.lemmas.List.{take_more, drop_more, length-drop, take-append-drop, get_or-set_same, get_or-set_other}
 use Rattle.a64_code.specs.declared.instr.A64.{A64}
-use Rattle.a64_table.specs.Rows.{a64_result, a64_operands}
+use Rattle.a64_table.specs.Rows.{a64_result}
 use Rattle.a64_block.specs.Registers.{numbers}
-use Rattle.a64_block.specs.Conditions.{end_operands, IsSetIn, Occurs, IsLiveAt, LiveAtMost}
+use Rattle.a64_block.specs.Conditions.{IsSetIn, Occurs}
 use Rattle.a64_block.specs.declared.block.AEnd.{AEnd}
 use Rattle.regalloc.specs.Uses.{Reaches, AreLast}
-use Rattle.regalloc.specs.Slots.{StandsAt, AreApart, AreSlots, AreBelow}
-use Rattle.regalloc.specs.Scan.{HasFree, IsScanned}
+use Rattle.regalloc.specs.Slots.{StandsAt, AreApart}
+use Rattle.regalloc.specs.Scan.{IsScanned}
 
 -- ---- what is set among words
 

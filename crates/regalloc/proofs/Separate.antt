@@ -1,18 +1,17 @@
 -- The registers of slots are apart where the slots are, so the block that they give means the block, and can be laid out.
-use Rattle.std.proofs.Common.{◌≡◌, ◌≢◌, ◌⊎◌, inl, inr, ℕ, zero, suc, ◌+◌, ◌<◌, ◌≤◌, ◌==◌, List, [], ◌∷◌, ◌++◌, length, map, take, drop, Option, Some, None, unwrap_or, refl, sym, ap, ◌∙◌, subst, arith, length-append, append_assoc}
+use Rattle.std.proofs.Common.{◌≡◌, ◌≢◌, ◌⊎◌, inl, inr, ℕ, zero, suc, ◌+◌, ◌<◌, ◌≤◌, List, [], ◌∷◌, ◌++◌, length, map, take, drop, Option, Some, None, unwrap_or, refl, sym, ap, ◌∙◌, subst, arith, length-append, append_assoc}
 use Rattle.std.proofs.lemmas.Bool.{cases_eq, cases_lt}
 use Rattle.std.proofs.lemmas.Bool.Decides.{nat_tests}
 use Rattle.std.proofs.Math.Seq.{drop-append_seam, drop-append-add, take-append_seam}
 use Rattle.a64_code.specs.declared.instr.XReg.{XReg}
 use Rattle.a64_code.specs.declared.instr.A64.{A64}
-use Rattle.a64_code.specs.Ranges.{IsRegister}
 use Rattle.a64_table.specs.Rows.{a64_result}
 use Rattle.a64_block.specs.Registers.{numbers, home}
 use Rattle.a64_block.specs.Renamed.{renamed, renamed_end}
 use Rattle.a64_block.specs.Conditions.{a64_skip, IsSetIn, Occurs, IsReadFirst, SetsFirst, IsAllocatable, IsLayable}
 use Rattle.a64_block.specs.declared.block.AEnd.{AEnd}
 use Rattle.regalloc.specs.Allocated.{MeansNumbers}
-use Rattle.regalloc.specs.Slots.{temporary, register_of, AreBelow, StandsAt, AreSlots}
+use Rattle.regalloc.specs.Slots.{temporary, register_of, AreBelow, AreSlots}
 use Rattle.regalloc.proofs.Kept.{IsNaming, AreApartBy, block_kept}
 use Rattle.regalloc.proofs.Layable.{IsFitting, layable}
 use Rattle.regalloc.proofs.Scanning.{set_more}

@@ -7,6 +7,8 @@ mod allocation;
 mod registers;
 mod renamed;
 mod scan;
+#[cfg(test)]
+mod tests;
 mod uses;
 mod words;
 

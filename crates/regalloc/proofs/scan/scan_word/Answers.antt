@@ -1,5 +1,4 @@
-use Rattle.std.proofs.Common.{◌≡◌, ℕ, ◌<◌, nat_eq, Some, None, Option, sym, ap, ◌∙◌, arith, IsSome}
-use Rattle.std.specs.Option.{is_some}
+use Rattle.std.proofs.Common.{◌≡◌, ℕ, nat_eq, Some, None, sym, ◌∙◌, arith}
 use Rattle.indexmap.specs.IndexMap.{get}
 use Rattle.a64_table.specs.Rows.{a64_result}
 use Rattle.a64_block.specs.Registers.{numbers}
