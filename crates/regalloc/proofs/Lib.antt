@@ -1,0 +1,8 @@
+mod Renaming
+mod Kept
+mod Layable
+mod Numbers
+mod Scanning
+mod FreeSlots
+mod Separate
+mod TestBlock

@@ -1,1 +1,4 @@
 pub mod Allocated
+pub mod Uses
+pub mod Slots
+pub mod Scan

@@ -3,6 +3,13 @@
 //! Source: linear scan (Poletto and Sarkar, TOPLAS 21(5), 1999), over eight registers and without spilling.
 #![tactic(auto)]
 
-mod allocate;
+mod allocation;
+mod registers;
+mod renamed;
+mod scan;
+#[cfg(test)]
+mod tests;
+mod uses;
+mod words;
 
-pub use allocate::allocate;
+pub use allocation::allocate;

@@ -2,8 +2,11 @@ ghost use Rattle.std.specs.Prelude.{◌≡◌, IfOk, length};
 ghost use Rattle.a64_block.specs.Conditions.{IsAllocatable, IsLayable};
 ghost use Rattle.regalloc.specs.Allocated.{MeansNumbers};
 
-use a64_block::{ABlock, AEnd};
-use a64_code::{A64, XReg};
+use crate::renamed::{renamed_end, renamed_words};
+use crate::scan::assign_slots;
+use crate::uses::last_uses;
+use a64_block::ABlock;
+use a64_code::XReg;
 use ev_graph::{List, NoMemory};
 use std::alloc::Global;
 
@@ -16,5 +19,12 @@ pub fn allocate(alloc: Global, block: ABlock<u32>) -> Result<ABlock<XReg>, NoMem
     ensures layable { IfOk result (λ b. IsLayable b.steps b.end) }
     ensures many { IfOk result (λ b. length b.steps ≡ length block.steps) }
 {
-    todo
+    let last = last_uses(alloc, &block)?;
+    let slots = assign_slots(alloc, &block, &last)?;
+    let words = renamed_words(alloc, block.steps.as_slice(), &slots)?;
+    Ok(ABlock {
+        first: block.first,
+        steps: List::of(words),
+        end: renamed_end(block.end, &slots),
+    })
 }
