@@ -1,4 +1,5 @@
 -- Words over other registers.
+use Rattle.std.specs.Prelude.{◌≡◌}
 use Rattle.a64_code.specs.declared.instr.A64.{A64}
 use Rattle.a64_code.specs.declared.instr.A64.TheVariants.{Add, Sub, Subs, And, Orr, Eor, AddImm, SubImm, Movz, Movk, Movn, Lslv, Lsrv, Asrv, Rorv, Udiv, Sdiv, Madd, Msub, Smulh, Umulh, Ubfm, Sbfm, Csel, Csinc, B, BCond, Cbz, Cbnz, Ldr, Str, Cas, Swp, Ldadd, Ldclr, Ldeor, Ldset, DmbFull, DmbLd, DmbSt, Nop, Brk, Svc}
 use Rattle.a64_block.specs.declared.block.AEnd.{AEnd}
@@ -57,3 +58,7 @@ renamed_end g (ends.Branch r a b) = ends.Branch (g r) a b
 renamed_end g (ends.Return r) = ends.Return (g r)
 renamed_end g (ends.Indexed r table) = ends.Indexed (g r) table
 renamed_end g (ends.Stop kind) = ends.Stop kind
+
+-- the same end over other registers
+abbrev pub IsRenamedEnd : {R S : Type 0} → AEnd R → AEnd S → Type 0
+IsRenamedEnd {R} {S} end fin = (g : R → S) × (fin ≡ renamed_end g end)

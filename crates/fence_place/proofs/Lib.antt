@@ -2,3 +2,4 @@ mod Searched
 mod Placed
 mod Well
 mod Selectable
+mod Few

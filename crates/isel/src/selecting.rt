@@ -20,6 +20,7 @@ use std::alloc::Global;
 pub fn select(alloc: Global, block: &IrBlock) -> Result<ABlock<u32>, NoMemory>
     requires { IsSelectable block.now.steps block.now.end }
     ensures first { IfOk result (λ b. b.first ≡ block.now.first) }
+    ensures end { IfOk result (λ b. b.end ≡ selected_end block.now.end) }
     ensures meaning { IfOk result (λ b. MeansSteps block.now.steps block.now.end b.steps b.end) }
     ensures allocatable { IfOk result (λ b. IsAllocatable b.steps b.end) }
     ensures few { IfOk result (λ b. length b.steps ≤ cost_of step_cost block.now.steps) }

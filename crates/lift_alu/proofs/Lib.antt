@@ -14,5 +14,4 @@ mod LiftedStack
 mod LiftedArithmetic
 mod LiftedSteps
 mod Meaning
-mod Selectable
 mod Unlocked

@@ -114,9 +114,16 @@ all_translated code [] at n is may = tt
 all_translated code (p ∷ []) at n is may = (one_translated code p at n is.0 may.0, tt)
 all_translated code (p ∷ q ∷ ps) at n is may = (one_translated code p at n is.0 may.0, all_translated code (q ∷ ps) (at + p.length) (suc n) is.2 may.1)
 
+-- a line has at most 4,096 instructions
+pub line_short : (code : Code) (line : List Placed) (n : ℕ) → n ≤ 4096 → AllMayStand code n line → n + length line ≤ 4096
+line_short code [] n few all = omega (arith, few)
+line_short code (p ∷ ps) n few all =
+    let rest = line_short code ps (suc n) (omega (arith, all.0.few)) all.1 in omega (arith, rest)
+
 pub built_straight : (code : Code) (line : List Placed) (first : ℕ) → AllByRecursion IsSegment code.parts → IsBuiltLine code first line → IsStraight first line
 built_straight code line first segments built = record {
   stands = stand_from code.parts line first segments built.is_line;
+  few = (let short = line_short code line 0 (omega arith) built.may_stand in omega (arith, short));
   ends = ends_last code.parts line first built.is_line;
   translated = all_translated code line first 0 built.is_line built.may_stand;
 }
@@ -194,9 +201,3 @@ found_holds P (q ∷ ps) n p all found = by_test (n == q.address) refl found (λ
     by_test : (b : Bool) → (n == q.address) ≡ b → (if n == q.address then Some q else placed_in ps n) ≡ Some p → (placed_in ps n ≡ Some p → P p) → P p
     by_test true e here rest = subst P (some_same (sym (ap (λ c. if c then Some q else placed_in ps n) e) ∙ here)) all.0
     by_test false e here rest = rest (sym (ap (λ c. if c then Some q else placed_in ps n) e) ∙ here)
-
--- a line has at most 4,096 instructions
-pub line_short : (code : Code) (line : List Placed) (n : ℕ) → n ≤ 4096 → AllMayStand code n line → n + length line ≤ 4096
-line_short code [] n few all = omega (arith, few)
-line_short code (p ∷ ps) n few all =
-    let rest = line_short code ps (suc n) (omega (arith, all.0.few)) all.1 in omega (arith, rest)

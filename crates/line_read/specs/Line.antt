@@ -141,6 +141,7 @@ pub record IsTranslated (p : Placed) : Type 0 where
 -- a straight line from an address on, all of which is translated so far
 pub record IsStraight (first : ℕ) (line : List Placed) : Type 0 where
   pub stands : StandFrom first line
+  pub few : length line ≤ 4096
   pub ends : EndsLast line
   pub translated : AllByRecursion IsTranslated line
 

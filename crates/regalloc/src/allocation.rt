@@ -1,5 +1,6 @@
 ghost use Rattle.std.specs.Prelude.{◌≡◌, IfOk, length};
 ghost use Rattle.a64_block.specs.Conditions.{IsAllocatable, IsLayable};
+ghost use Rattle.a64_block.specs.Renamed.{IsRenamedEnd};
 ghost use Rattle.regalloc.specs.Allocated.{MeansNumbers};
 
 use crate::renamed::{renamed_end, renamed_words};
@@ -15,6 +16,7 @@ use std::alloc::Global;
 pub fn allocate(alloc: Global, block: ABlock<u32>) -> Result<ABlock<XReg>, NoMemory>
     requires { IsAllocatable block.steps block.end }
     ensures first { IfOk result (λ b. b.first ≡ block.first) }
+    ensures end { IfOk result (λ b. IsRenamedEnd block.end b.end) }
     ensures meaning { IfOk result (λ b. MeansNumbers block.steps block.end b.steps b.end) }
     ensures layable { IfOk result (λ b. IsLayable b.steps b.end) }
     ensures many { IfOk result (λ b. length b.steps ≡ length block.steps) }

@@ -3,11 +3,7 @@
 //! Source: backward and forward simulation of compilers (Leroy, CACM 52(7), 2009), pass by pass.
 #![tactic(auto)]
 
-mod fence;
 mod layout;
-mod lift;
-mod select;
-mod steps;
 mod translate;
 
 pub use translate::translate_line;

@@ -2,13 +2,14 @@ ghost use Rattle.std.specs.Prelude.{◌+◌, ◌*◌, ◌^◌, ◌<◌, ◌≤�
 ghost use Rattle.line_read.specs.Line.{IsStraight};
 ghost use Rattle.straight_line.specs.Carried.{CarriesLine};
 
-use crate::fence::place_fences;
 use crate::layout::lay_out;
-use crate::lift::lift_line;
-use crate::select::select_words;
 use ev_graph::NoMemory;
+use fence_place::place;
+use isel::select;
+use lift::lift_line;
+use regalloc::allocate;
 use std::alloc::Global;
-use x64_syntax::Placed;
+use x64_syntax::{List, Marks, Placed};
 
 /// The words that carry a straight line, whose first instruction stands at `first`, wherever they
 /// stand among others: at most 64 for each instruction, and 64 more.
@@ -18,8 +19,16 @@ pub fn translate_line(alloc: Global, first: u64, line: &[Placed]) -> Result<Vec<
         → CarriesLine first line.now code (before ++ (words.items ++ after)) (code + 4 * length before)) }
     ensures size { IfOk result (λ words. length words.items ≤ 64 * length line.now + 64) }
 {
-    let steps = lift_line(alloc, line)?;
-    let with_fences = place_fences(alloc, &steps)?;
-    let words = select_words(alloc, &with_fences)?;
-    lay_out(alloc, &words)
+    let lifted = lift_line(alloc, line)?;
+    let placed = place(alloc, lifted, &no_marks(alloc))?;
+    let selected = select(alloc, &placed)?;
+    let allocated = allocate(alloc, selected)?;
+    lay_out(alloc, &allocated)
+}
+
+/// No slot is private.
+fn no_marks(alloc: Global) -> Marks {
+    Marks {
+        slots: List::of(Vec::new(alloc)),
+    }
 }
