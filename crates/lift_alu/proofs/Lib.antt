@@ -1,4 +1,5 @@
 mod OperandValues
 mod FlagValues
 mod Meaning
+mod Tame
 mod Selectable
