@@ -2,4 +2,5 @@ mod OperandValues
 mod FlagValues
 mod Meaning
 mod Tame
+mod Modest
 mod Selectable

@@ -57,6 +57,14 @@ tame_cost (setting sets reads range few more cost rest) = omega (arith, cost, ta
 tame_cost (extending among extended few more cost rest) = omega (arith, cost, tame_cost rest)
 tame_cost (acting none reads range few cost rest) = omega (arith, cost, tame_cost rest)
 
+-- steps that cost so much cost at most more
+pub tame_more : {end : IrEnd} {live : List ℕ} {next least most : ℕ} {xs : List IrStep} → least ≤ most → Tame end live next least xs → Tame end live next most xs
+tame_more le (ended reads range) = ended reads range
+tame_more le (dropped fewer rest) = dropped fewer (tame_more le rest)
+tame_more le (setting sets reads range few more cost rest) = setting sets reads range few (omega (arith, le, more)) (omega (arith, le, cost)) rest
+tame_more le (extending among extended few more cost rest) = extending among extended few (omega (arith, le, more)) (omega (arith, le, cost)) rest
+tame_more le (acting none reads range few cost rest) = acting none reads range few (omega (arith, le, cost)) rest
+
 -- ---- the steps are well made
 
 know_keeps : (o : Option ℕ) (k : Known) (known : ℕ → Known) (t : ℕ) → IsSet k → IsSet (known t) → IsSet (know o k known t)
