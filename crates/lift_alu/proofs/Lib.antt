@@ -3,4 +3,6 @@ mod FlagValues
 mod Meaning
 mod Tame
 mod Modest
+mod Bounds
+mod Liftings
 mod Selectable

@@ -54,11 +54,11 @@ abbrev pub beside : (next : ℕ) → Formula → (live : List ℕ) → List ℕ
 beside next (Kept t) live = live
 beside next e live = place next e ∷ live
 
-beside_more : (next : ℕ) (e : Formula) (live : List ℕ) (t : ℕ) → Among live t → Among (beside next e live) t
+pub beside_more : (next : ℕ) (e : Formula) (live : List ℕ) (t : ℕ) → Among live t → Among (beside next e live) t
 beside_more next (Kept t) live u among = among
 beside_more next e live u among = inr among
 
-keep_first : (live more : List ℕ) → ((t : ℕ) → Among live t → Among more t) → (first t : ℕ) → Among (first ∷ live) t → Among (first ∷ more) t
+pub keep_first : (live more : List ℕ) → ((t : ℕ) → Among live t → Among more t) → (first t : ℕ) → Among (first ∷ live) t → Among (first ∷ more) t
 keep_first live more grows first t (inl same) = inl same
 keep_first live more grows first t (inr among) = inr (grows t among)
 
@@ -187,3 +187,13 @@ module _ (end : IrEnd) where
       set_one live live next (next + 1) most left (steps.GetFlag (temp next) f) xs refl tt (λ known. sound) (omega (arith, few)) (omega (arith, cost)) (omega (arith, cost)) (omega arith) (λ t among. among) rest
   computed (Operation op a b) live next most left xs sound few cost rest = operation_computed op a b sound.2 (computed a) (computed b) live next most left xs sound few cost rest
   computed (Choice c a b) live next most left xs sound few cost rest = choice_computed c a b (computed c) (computed a) (computed b) live next most left xs sound few cost rest
+
+-- a formula is sound, takes at most so many temporaries at once, and costs at most so much
+pub record Within (live : List ℕ) (most_room most_price : ℕ) (e : Formula) : Type 0 where
+  pub sound : Sound live e
+  pub in_room : room e ≤ most_room
+  pub in_price : price e ≤ most_price
+
+pub within_more : {live : List ℕ} {room_before price_before room_after price_after : ℕ} {e : Formula} → room_before ≤ room_after → price_before ≤ price_after
+    → Within live room_before price_before e → Within live room_after price_after e
+within_more room_le price_le w = record { sound = w.sound; in_room = omega (arith, w.in_room, room_le); in_price = omega (arith, w.in_price, price_le) }
