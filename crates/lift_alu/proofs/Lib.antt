@@ -5,4 +5,5 @@ mod Tame
 mod Modest
 mod Bounds
 mod Liftings
+mod OperandSteps
 mod Selectable

@@ -78,10 +78,16 @@ module _ (end : IrEnd) where
   unfolding stores
   stores_tame live at count address v most left rest is in_address in_v few cost tame next = acting refl (in_address, (in_v, tt)) (λ known. is) few (omega (arith, cost)) (tame next)
 
-  -- ---- operands
+  -- OF, ZF and SF of a result, and all four flags
+  module _ (live : List ℕ) (w : Width) (r : ℕ) (overflow : Formula) (few : 3 + length live ≤ 6) (in_r : Among live r) (h : Within live 3 6 overflow) where
+    pub sets_result_tame : (most left : ℕ) (rest : Lifting) → 14 + left ≤ most → TameLifting live left rest → TameLifting live most (sets_result w overflow (Kept r) rest)
+    unfolding sets_result
+    sets_result_tame most left rest cost tame =
+        sets_flag_tame overflow h few OF most (7 + left) _ (omega arith) (omega (arith, cost))
+        (sets_flag_tame _ (zero_within live r in_r) (omega (arith, few)) ZF (7 + left) (3 + left) _ (omega arith) (omega arith)
+        (sets_flag_tame _ (top_within live {most_room = 3} {most_price = 0} w (Kept r) (omega arith) (within_more (omega arith) (omega arith) (kept_within live r in_r))) few SF (3 + left) left rest (omega arith) (omega arith) tame))
 
-  pub size_of : (w : Width) → IsSize (bytes w)
-  size_of width.Byte = inl refl
-  size_of width.Word = inr (inl refl)
-  size_of width.Long = inr (inr (inl refl))
-  size_of width.Quad = inr (inr (inr refl))
+    pub sets_flags_tame : (carry : Formula) (most left : ℕ) (rest : Lifting) → Within live 3 7 carry → 22 + left ≤ most → TameLifting live left rest → TameLifting live most (sets_flags w overflow carry (Kept r) rest)
+    unfolding sets_flags
+    sets_flags_tame carry most left rest carried cost tame =
+        sets_result_tame most (8 + left) _ (omega (arith, cost)) (sets_flag_tame carry carried few CF (8 + left) left rest (omega arith) (omega arith) tame)
