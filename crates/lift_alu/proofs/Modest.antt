@@ -1,5 +1,5 @@
 -- Formulas whose steps cost little and have few temporaries live at once.
-use Rattle.std.proofs.Common.{◌≡◌, Some, None, ℕ, suc, ◌+◌, ◌<◌, ◌≤◌, max, List, [], ◌∷◌, ◌++◌, length, refl, sym, ap, ◌∙◌, subst, inl, inr, arith}
+use Rattle.std.proofs.Common.{◌≡◌, Some, ℕ, suc, ◌+◌, ◌<◌, ◌≤◌, max, List, [], ◌∷◌, ◌++◌, length, refl, sym, ap, ◌∙◌, subst, inl, inr, arith}
 use Rattle.std.specs.List.{AllByRecursion}
 use Rattle.std.proofs.lemmas.List.{append_assoc}
 use Rattle.limm_ir.specs.Conditions.{step_reads, step_sets, Known, Constant, IsExtended, HasConstant, InRange}
@@ -10,7 +10,7 @@ use Rattle.limm_ir.specs.declared.step.IrOp.TheVariants as ops
 use Rattle.limm_ir.specs.declared.step.IrStep.{IrStep}
 use Rattle.limm_ir.specs.declared.step.IrStep.TheVariants as steps
 use Rattle.lift_alu.specs.Formulas.{Formula, Kept, Number, Register, Flag, Operation, Choice, temp, size, place, computes}
-use Rattle.lift_alu.proofs.Tame.{Among, Tame, tame_more, dropped, setting, extending, acting}
+use Rattle.lift_alu.proofs.Tame.{Among, Tame, tame_more, dropped, setting, extending}
 
 -- the operands of an operation are in range: an extension takes a number of bytes
 pub data InOperation (op : IrOp) : Formula → Type 0 where
@@ -54,28 +54,34 @@ abbrev pub beside : (next : ℕ) → Formula → (live : List ℕ) → List ℕ
 beside next (Kept t) live = live
 beside next e live = place next e ∷ live
 
+-- what may be read stays so
 pub beside_more : (next : ℕ) (e : Formula) (live : List ℕ) (t : ℕ) → Among live t → Among (beside next e live) t
 beside_more next (Kept t) live u among = among
 beside_more next e live u among = inr among
 
+-- the same with one more in front
 pub keep_first : (live more : List ℕ) → ((t : ℕ) → Among live t → Among more t) → (first t : ℕ) → Among (first ∷ live) t → Among (first ∷ more) t
 keep_first live more grows first t (inl same) = inl same
 keep_first live more grows first t (inr among) = inr (grows t among)
 
+-- the place of a value may be read
 pub place_among : (next : ℕ) (e : Formula) (live : List ℕ) → Sound live e → Among (beside next e live) (place next e)
 place_among next (Kept t) live sound = sound
 place_among next e live sound = inl refl
 
+-- how many temporaries may be read then
 pub beside_count : (next : ℕ) (e : Formula) (live : List ℕ) → length (beside next e live) ≡ own e + length live
 beside_count next (Kept t) live = omega arith
 beside_count next e live = omega arith
 
+-- a value takes no more room than its steps
 pub own_room : (e : Formula) → own e ≤ room e
 own_room (Kept t) = omega arith
 own_room (Operation op a b) = omega arith
 own_room (Choice c a b) = omega arith
 own_room e = omega arith
 
+-- a value takes one temporary at most
 pub own_one : (e : Formula) → own e ≤ 1
 own_one (Kept t) = omega arith
 own_one e = omega arith
@@ -89,6 +95,7 @@ sound_more live more (Number n) grows sound = sound
 sound_more live more (Register r) grows sound = sound
 sound_more live more (Flag f) grows sound = sound
 
+-- an operation costs something
 op_costs : (op : IrOp) → 1 ≤ op_cost op
 op_costs ops.Mul = omega arith
 op_costs ops.Eq = omega arith
@@ -96,9 +103,11 @@ op_costs ops.LessU = omega arith
 op_costs ops.LessS = omega arith
 op_costs op = omega arith
 
+-- a number costs something
 number_costs : (n : ℕ) → 1 ≤ number_cost n
 number_costs n = omega arith
 
+-- the steps of operands, a step, and what comes behind
 both_then : (xs ys : List IrStep) (z : IrStep) (zs : List IrStep) → (xs ++ (ys ++ z ∷ [])) ++ zs ≡ xs ++ (ys ++ (z ∷ zs))
 both_then xs ys z zs = append_assoc xs (ys ++ z ∷ []) zs ∙ ap (λ l. xs ++ l) (append_assoc ys (z ∷ []) zs)
 
@@ -113,7 +122,8 @@ module _ (end : IrEnd) where
 
   -- a step that sets the next temporary, where then only this one may be read besides
   set_one : (live seen : List ℕ) (next after most left : ℕ) (x : IrStep) (xs : List IrStep) → step_sets x ≡ Some next → AllByRecursion (Among seen) (step_reads x)
-      → ((known : ℕ → Known) → InRange known x) → length seen ≤ 5 → suc left ≤ most → fenced_cost x + left ≤ most → after ≡ suc next → ((t : ℕ) → Among live t → Among seen t)
+      → ((known : ℕ → Known) → InRange known x) → length seen ≤ 5 → suc left ≤ most → fenced_cost x + left ≤ most → after ≡ suc next
+      → ((t : ℕ) → Among live t → Among seen t)
       → Tame end (next ∷ live) after left xs → Tame end seen next most (x ∷ xs)
   set_one live seen next after most left x xs sets reads range few more cost is grows rest =
       setting sets reads range few more cost (dropped (keep_first live seen grows next) (subst (λ n. Tame end (next ∷ live) n left xs) is rest))
@@ -128,10 +138,10 @@ module _ (end : IrEnd) where
       let step = steps.Op op (temp at) (temp (place next a)) (temp (place second_at b)) in
       let in_both = place_among second_at b with_first (sound_more live with_first b (beside_more next a live) sound.1) in
       let behind : Tame end with_both at (op_cost op + left) (step ∷ xs) =
-          set_one live with_both at (next + (size a + size b + 1)) (op_cost op + left) left step xs refl
-          (beside_more second_at b with_first (place next a) (place_among next a live sound.0), (in_both, tt)) (λ known. range (known (place second_at b)))
-          (omega (arith, few, beside_count next a live, beside_count second_at b with_first)) (omega (arith, op_costs op)) (omega arith) (omega arith)
-          (λ t among. beside_more second_at b with_first t (beside_more next a live t among)) rest in
+      set_one live with_both at (next + (size a + size b + 1)) (op_cost op + left) left step xs refl
+      (beside_more second_at b with_first (place next a) (place_among next a live sound.0), (in_both, tt)) (λ known. range (known (place second_at b)))
+      (omega (arith, few, beside_count next a live, beside_count second_at b with_first)) (omega (arith, op_costs op)) (omega arith) (omega arith)
+      (λ t among. beside_more second_at b with_first t (beside_more next a live t among)) rest in
       subst (Tame end live next most) (sym (both_then (computes next a) (computes second_at b) step xs))
       (first live next most (price b + (op_cost op + left)) (computes second_at b ++ (step ∷ xs)) sound.0 (omega (arith, few)) (omega (arith, cost))
       (second with_first second_at (price b + (op_cost op + left)) (op_cost op + left) (step ∷ xs) (sound_more live with_first b (beside_more next a live) sound.1)
@@ -143,8 +153,9 @@ module _ (end : IrEnd) where
       let result_is : suc at ≡ at + 1 = omega arith in
       let grown = keep_first live with_first (beside_more next a live) in
       let extends : Tame end with_first at (number_cost n + (op_cost op + left)) (behind (suc at)) =
-          extending (place_among next a live sound.0) is (omega (arith, few, beside_count next a live)) (omega (arith, op_costs op, number_costs n)) (omega arith)
-          (dropped (grown (suc at)) (subst (λ t. Tame end (suc at ∷ live) t left xs) (omega arith) (subst (λ t. Tame end (t ∷ live) (next + (size a + 1 + 1)) left xs) (omega arith) rest))) in
+      extending (place_among next a live sound.0) is (omega (arith, few, beside_count next a live)) (omega (arith, op_costs op, number_costs n)) (omega arith)
+      (dropped (grown (suc at)) (subst (λ t. Tame end (suc at ∷ live) t left xs) (omega arith)
+      (subst (λ t. Tame end (t ∷ live) (next + (size a + 1 + 1)) left xs) (omega arith) rest))) in
       subst (Tame end live next most) (sym (both_then (computes next a) (steps.Const (temp at) n ∷ []) (steps.Op op (temp (at + 1)) (temp (place next a)) (temp at)) xs))
       (first live next most (number_cost n + (op_cost op + left)) (behind (at + 1)) sound.0 (omega (arith, few)) (omega (arith, cost))
       (subst (λ t. Tame end with_first at (number_cost n + (op_cost op + left)) (behind t)) result_is extends))
@@ -168,23 +179,35 @@ module _ (end : IrEnd) where
       let count_again = beside_count first_at a with_condition in
       let count_last = beside_count second_at b with_first in
       let behind : Tame end with_both at (2 + left) (step ∷ xs) =
-          set_one live with_both at (next + (size c + size a + size b + 1)) (2 + left) left step xs refl
-          (grows_last (place next c) (grows_again (place next c) (place_among next c live sound.0)), (grows_last (place first_at a) (place_among first_at a with_condition first_sound),
-          (place_among second_at b with_first second_sound, tt))) (λ known. tt)
-          (omega (arith, few)) (omega arith) (omega arith) (omega arith) (λ t among. grows_last t (grows_again t (grows_once t among))) rest in
+      set_one live with_both at (next + (size c + size a + size b + 1)) (2 + left) left step xs refl (
+        grows_last (place next c) (grows_again (place next c) (place_among next c live sound.0)),
+        (
+          grows_last (place first_at a) (place_among first_at a with_condition first_sound),
+          (place_among second_at b with_first second_sound, tt),
+        ),
+      ) (λ known. tt)
+      (omega (arith, few)) (omega arith) (omega arith) (omega arith) (λ t among. grows_last t (grows_again t (grows_once t among))) rest in
       subst (Tame end live next most) (sym (three_then (computes next c) (computes first_at a) (computes second_at b) step xs))
       (condition live next most (price a + (price b + (2 + left))) (computes first_at a ++ (computes second_at b ++ (step ∷ xs))) sound.0 (omega (arith, few)) (omega (arith, cost))
       (first with_condition first_at (price a + (price b + (2 + left))) (price b + (2 + left)) (computes second_at b ++ (step ∷ xs)) first_sound (omega (arith, few)) (omega arith)
       (second with_first second_at (price b + (2 + left)) (2 + left) (step ∷ xs) second_sound (omega (arith, few)) (omega arith) behind)))
 
+  -- one step that reads nothing and sets its temporary
+  leaf_computed : (live : List ℕ) (next most left : ℕ) (x : IrStep) (xs : List IrStep) → step_sets x ≡ Some next → step_reads x ≡ [] → ((known : ℕ → Known) → InRange known x)
+      → 1 + length live ≤ 6 → 1 ≤ fenced_cost x → fenced_cost x + left ≤ most → Tame end (next ∷ live) (next + 1) left xs → Tame end live next most (x ∷ xs)
+  leaf_computed live next most left x xs sets reads range few cheap cost rest =
+      set_one live live next (next + 1) most left x xs sets (subst (AllByRecursion (Among live)) (sym reads) tt) range (omega (arith, few)) (omega (arith, cheap, cost)) cost (omega arith)
+      (λ t among. among) rest
+
+  -- the steps of a formula keep what comes behind tame
   pub computed : (e : Formula) → Computed e
   computed (Kept t) live next most left xs sound few cost rest = tame_more (omega (arith, cost)) (subst (λ n. Tame end live n left xs) (omega arith) rest)
   computed (Number n) live next most left xs sound few cost rest =
-      set_one live live next (next + 1) most left (steps.Const (temp next) n) xs refl tt (λ known. tt) (omega (arith, few)) (omega (arith, number_costs n, cost)) (omega (arith, cost)) (omega arith) (λ t among. among) rest
+      leaf_computed live next most left (steps.Const (temp next) n) xs refl refl (λ known. tt) few (omega (arith, number_costs n)) (omega (arith, cost)) rest
   computed (Register r) live next most left xs sound few cost rest =
-      set_one live live next (next + 1) most left (steps.GetReg (temp next) r) xs refl tt (λ known. sound) (omega (arith, few)) (omega (arith, cost)) (omega (arith, cost)) (omega arith) (λ t among. among) rest
+      leaf_computed live next most left (steps.GetReg (temp next) r) xs refl refl (λ known. sound) few (omega arith) (omega (arith, cost)) rest
   computed (Flag f) live next most left xs sound few cost rest =
-      set_one live live next (next + 1) most left (steps.GetFlag (temp next) f) xs refl tt (λ known. sound) (omega (arith, few)) (omega (arith, cost)) (omega (arith, cost)) (omega arith) (λ t among. among) rest
+      leaf_computed live next most left (steps.GetFlag (temp next) f) xs refl refl (λ known. sound) few (omega arith) (omega (arith, cost)) rest
   computed (Operation op a b) live next most left xs sound few cost rest = operation_computed op a b sound.2 (computed a) (computed b) live next most left xs sound few cost rest
   computed (Choice c a b) live next most left xs sound few cost rest = choice_computed c a b (computed c) (computed a) (computed b) live next most left xs sound few cost rest
 
@@ -194,6 +217,7 @@ pub record Within (live : List ℕ) (most_room most_price : ℕ) (e : Formula) :
   pub in_room : room e ≤ most_room
   pub in_price : price e ≤ most_price
 
+-- the same with greater bounds
 pub within_more : {live : List ℕ} {room_before price_before room_after price_after : ℕ} {e : Formula} → room_before ≤ room_after → price_before ≤ price_after
     → Within live room_before price_before e → Within live room_after price_after e
 within_more room_le price_le w = record { sound = w.sound; in_room = omega (arith, w.in_room, room_le); in_price = omega (arith, w.in_price, price_le) }

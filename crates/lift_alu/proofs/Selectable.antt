@@ -1,5 +1,5 @@
 -- The steps of an instruction cost little, use their own temporaries, and have few of them live.
-use Rattle.std.proofs.Common.{◌≡◌, ℕ, suc, ◌+◌, ◌^◌, ◌<◌, ◌≤◌, true, List, [], ◌∷◌, length, refl, inl, inr, ◌⊎◌, arith}
+use Rattle.std.proofs.Common.{◌≡◌, ℕ, ◌+◌, ◌^◌, ◌<◌, ◌≤◌, true, List, [], ◌∷◌, refl, inl, inr, ◌⊎◌, arith}
 use Rattle.word_arith.specs.Masks.{ones}
 use Rattle.x64_syntax.specs.Formed.{IsFormed, IsStored, IsNumber, IsInRegister, IsInMemory}
 use Rattle.x64_syntax.specs.Operands.{bits}
@@ -20,33 +20,35 @@ use Rattle.limm_ir.specs.declared.block.IrEnd.TheVariants as ends
 use Rattle.limm_ir.specs.declared.step.IrOp.{IrOp}
 use Rattle.limm_ir.specs.declared.step.IrOp.TheVariants as ops
 use Rattle.lift_alu.specs.Built.{is_built}
-use Rattle.lift_alu.specs.Formulas.{Formula, Kept, Number, Register, Flag, Operation, Choice, Lifting, done, temp, keeps}
-use Rattle.lift_alu.specs.Operands.{clean, with_sign, register_formula, address_formula}
+use Rattle.lift_alu.specs.Formulas.{Kept, Number, Register, Operation, Choice, Lifting, done, temp, keeps}
+use Rattle.lift_alu.specs.Operands.{clean, with_sign, register_formula}
 use Rattle.lift_alu.specs.Flags.{top, sum_overflow, difference_overflow, borrow, sets_result, sets_flags, condition_formula}
 use Rattle.lift_alu.specs.Lifted.{puts, fetches, puts_operand, changes, result, flags_of, compares, combines, lifts_alu, takes_address, exchanges, adds_exchanged, pushes, pops, leaves_frame, chooses, fences, moves, lifts}
 use Rattle.lift_alu.specs.Meant.{end_from, SetsFrom}
 use Rattle.lift_alu.proofs.Tame.{Among, Tame, tame_more, ended, acting, tame_cost, tame_well, tame_sets, tame_once, tame_few}
 use Rattle.lift_alu.proofs.Modest.{ordinary, own_one, Within, within_more}
-use Rattle.lift_alu.proofs.Bounds.{number_small, number_most, kept_within, small_within, clean_within, with_sign_within, register_within, address_within, top_within, result_within, sum_overflow_within, difference_overflow_within, condition_within}
+use Rattle.lift_alu.proofs.Bounds.{number_most, kept_within, small_within, clean_within, with_sign_within, register_within, address_within, top_within, result_within, sum_overflow_within, difference_overflow_within, condition_within}
 use Rattle.lift_alu.proofs.Liftings.{TameLifting, less_live, done_tame, keeps_tame, sets_register_tame, loads_at, loads_tame, stores_tame, sets_result_tame, sets_flags_tame}
-use Rattle.lift_alu.proofs.OperandSteps.{Reached, reached_stored, reached_register, reached_number, reached_pair, fetch_price, fetch_most, puts_tame, puts_kept_tame, fetches_tame, moves_tame, puts_operand_tame, flags_tame, changes_tame}
+use Rattle.lift_alu.proofs.OperandSteps.{Reached, reached_stored, reached_register, reached_number, reached_pair, fetch_price, fetch_most, puts_tame, fetches_tame, moves_tame, kept_in_three, puts_operand_tame, puts_kept_operand_tame, flags_tame, changes_tame}
 
--- the stack pointer, or the frame's, and what it is moved by
-moved_by_eight : (live : List ℕ) (o : IrOp) (r : ℕ) → r < 16 → ((k : Known) → HasConstant o k) → op_cost o ≤ 1 → Within live 3 3 (Operation o (Register r) (Number 8))
-moved_by_eight live o r is plain cheap = record { sound = (is, tt, ordinary plain); in_room = omega arith; in_price = omega (arith, cheap) }
+-- the stack pointer, or the frame's, eight bytes further up or down
+above : (live : List ℕ) (r : ℕ) → r < 16 → Within live 3 3 (Operation ops.Add (Register r) (Number 8))
+above live r is = record { sound = (is, tt, ordinary (λ k. tt)); in_room = omega arith; in_price = omega arith }
 
+below : (live : List ℕ) (r : ℕ) → r < 16 → Within live 3 3 (Operation ops.Sub (Register r) (Number 8))
+below live r is = record { sound = (is, tt, ordinary (λ k. tt)); in_room = omega arith; in_price = omega arith }
+
+-- what is in a register
 pointer_within : (live : List ℕ) (r : ℕ) → r < 16 → Within live 1 1 (Register r)
 pointer_within live r is = record { sound = is; in_room = omega arith; in_price = omega arith }
 
--- what is kept takes no room of its own
-kept_in_three : (live : List ℕ) (t : ℕ) → Among live t → Within live 3 0 (Kept t)
-kept_in_three live t among = within_more (omega arith) (omega arith) (kept_within live t among)
-
+-- a register is fetched at less cost
 fetch_register : (w : Width) (o : Operand) → IsInRegister w o → fetch_price o ≤ 5
 fetch_register w (operand.Reg r) is = omega arith
 fetch_register w (operand.Mem m) is = elim is [ ]
 fetch_register w (operand.Imm n) is = elim is [ ]
 
+-- what is pushed
 reached_pushed : (o : Operand) → (IsStored width.Quad o ⊎ IsNumber width.Quad o) → Reached o
 reached_pushed o (inl stored) = reached_stored width.Quad o stored
 reached_pushed o (inr number) = reached_number width.Quad o number
@@ -56,11 +58,15 @@ module _ (at after goal : ℕ) where
   abbrev goto : IrEnd
   goto = ends.Goto goal
 
+  -- a lifting that begins with nothing live, and costs at most 62
   abbrev Few : Lifting → Type 0
   Few l = TameLifting goto [] 62 l
 
+  -- nothing is left to do, and nothing is read any more
   nothing_left : (live : List ℕ) (most : ℕ) → TameLifting goto live most done
   nothing_left live most = done_tame goto live most tt tt
+
+  -- two operands and an operation
 
   compares_tame : (o : AluOp) (w : Width) (to from : Operand) → Reached to → Reached from → Few (compares at after o w to from)
   unfolding compares
@@ -68,7 +74,8 @@ module _ (at after goal : ℕ) where
       fetches_tame goto at after [] w to 62 50 _ is_to (omega arith) (omega (arith, fetch_most to))
       (λ a. fetches_tame goto at after (a ∷ []) w from 50 38 _ is_from (omega arith) (omega (arith, fetch_most from))
       (λ b. keeps_tame goto (result at after o w (Kept a) (Kept b)) (result_within (b ∷ a ∷ []) at after a b (inr (inl refl)) (inl refl) o w) (omega arith) 38 33 _ (omega arith)
-      (λ r. flags_tame goto at after (r ∷ b ∷ a ∷ []) w a b r (inr (inr (inl refl))) (inr (inl refl)) (inl refl) (omega arith) o 33 11 done (omega arith) (nothing_left (r ∷ b ∷ a ∷ []) 11))))
+      (λ r. flags_tame goto at after (r ∷ b ∷ a ∷ []) w a b r (inr (inr (inl refl))) (inr (inl refl)) (inl refl) (omega arith) o 33 11 done (omega arith)
+      (nothing_left (r ∷ b ∷ a ∷ []) 11))))
 
   combines_tame : (o : AluOp) (w : Width) (to from : Operand) → Reached to → Reached from → Few (combines at after o w to from)
   unfolding combines
@@ -86,7 +93,8 @@ module _ (at after goal : ℕ) where
   address_tame : (w : Width) (to from : Operand) → Reached to → IsInMemory from → Few (takes_address at after w to from)
   unfolding takes_address
   address_tame w to (operand.Mem m) is_to is_from =
-      puts_operand_tame goto at after w to _ 62 0 done (clean_within [] w _ (omega arith) (address_within [] m after is_from)) (omega arith) (omega arith) is_to (omega arith) (nothing_left [] 0)
+      puts_operand_tame goto at after w to _ 62 0 done (clean_within [] w _ (omega arith) (address_within [] m after is_from)) (omega arith) (omega arith) is_to (omega arith)
+      (nothing_left [] 0)
   address_tame w to (operand.Reg r) is_to is_from = elim is_from [ ]
   address_tame w to (operand.Imm n) is_to is_from = elim is_from [ ]
 
@@ -95,8 +103,8 @@ module _ (at after goal : ℕ) where
   exchanges_tame w to from is_to is_from =
       fetches_tame goto at after [] w to 62 50 _ is_to (omega arith) (omega (arith, fetch_most to))
       (λ a. fetches_tame goto at after (a ∷ []) w from 50 38 _ is_from (omega arith) (omega (arith, fetch_most from))
-      (λ b. puts_operand_tame goto at after w from (Kept a) 38 31 _ (kept_in_three (b ∷ a ∷ []) a (inr (inl refl))) (omega arith) (omega arith) is_from (omega arith)
-      (puts_operand_tame goto at after w to (Kept b) 31 24 done (kept_in_three (b ∷ a ∷ []) b (inl refl)) (omega arith) (omega arith) is_to (omega arith) (nothing_left (b ∷ a ∷ []) 24))))
+      (λ b. puts_kept_operand_tame goto at after (b ∷ a ∷ []) w from a 38 31 _ is_from (inr (inl refl)) (omega arith) (omega arith)
+      (puts_kept_operand_tame goto at after (b ∷ a ∷ []) w to b 31 24 done is_to (inl refl) (omega arith) (omega arith) (nothing_left (b ∷ a ∷ []) 24))))
 
   adds_exchanged_tame : (w : Width) (to from : Operand) → Reached to → IsInRegister w from → Few (adds_exchanged at after w to from)
   unfolding adds_exchanged
@@ -104,11 +112,12 @@ module _ (at after goal : ℕ) where
       let is_from = reached_register w from in_register in
       fetches_tame goto at after [] w to 62 50 _ is_to (omega arith) (omega (arith, fetch_most to))
       (λ a. fetches_tame goto at after (a ∷ []) w from 50 45 _ is_from (omega arith) (omega (arith, fetch_register w from in_register))
-      (λ b. keeps_tame goto (result at after op.Add w (Kept a) (Kept b)) (result_within (b ∷ a ∷ []) at after a b (inr (inl refl)) (inl refl) op.Add w) (omega arith) 45 40 _ (omega arith)
+      (λ b. keeps_tame goto (result at after op.Add w (Kept a) (Kept b)) (result_within (b ∷ a ∷ []) at after a b (inr (inl refl)) (inl refl) op.Add w) (omega arith) 45 40 _
+      (omega arith)
       (λ r. flags_tame goto at after (r ∷ b ∷ a ∷ []) w a b r (inr (inr (inl refl))) (inr (inl refl)) (inl refl) (omega arith) op.Add 40 18 _ (omega arith)
       (less_live goto (r ∷ b ∷ a ∷ []) (r ∷ a ∷ []) _ (but_second r b a)
-      (puts_operand_tame goto at after w from (Kept a) 18 11 _ (kept_in_three (r ∷ a ∷ []) a (inr (inl refl))) (omega arith) (omega arith) is_from (omega arith)
-      (puts_operand_tame goto at after w to (Kept r) 11 4 done (kept_in_three (r ∷ a ∷ []) r (inl refl)) (omega arith) (omega arith) is_to (omega arith) (nothing_left (r ∷ a ∷ []) 4)))))))
+      (puts_kept_operand_tame goto at after (r ∷ a ∷ []) w from a 18 11 _ is_from (inr (inl refl)) (omega arith) (omega arith)
+      (puts_kept_operand_tame goto at after (r ∷ a ∷ []) w to r 11 4 done is_to (inl refl) (omega arith) (omega arith) (nothing_left (r ∷ a ∷ []) 4)))))))
     where
       but_second : (r b a t : ℕ) → Among (r ∷ a ∷ []) t → Among (r ∷ b ∷ a ∷ []) t
       but_second r b a t (inl same) = inl same
@@ -120,22 +129,23 @@ module _ (at after goal : ℕ) where
   unfolding pushes
   pushes_tame from is =
       fetches_tame goto at after [] width.Quad from 62 50 _ is (omega arith) (omega (arith, fetch_most from))
-      (λ v. keeps_tame goto (Operation ops.Sub (Register 4) (Number 8)) (moved_by_eight (v ∷ []) ops.Sub 4 (omega arith) (λ k. tt) (omega arith)) (omega arith) 50 47 _ (omega arith)
-      (λ below. stores_tame goto (below ∷ v ∷ []) at 8 below v 47 45 _ (inr (inr (inr refl))) (inl refl) (inr (inl refl)) (omega arith) (omega arith)
-      (sets_register_tame goto (Kept below) (kept_within (below ∷ v ∷ []) below (inl refl)) (omega arith) 4 45 44 done (omega arith) (omega arith) (nothing_left (below ∷ v ∷ []) 44))))
+      (λ v. keeps_tame goto (Operation ops.Sub (Register 4) (Number 8)) (below (v ∷ []) 4 (omega arith)) (omega arith) 50 47 _ (omega arith)
+      (λ address. stores_tame goto (address ∷ v ∷ []) at 8 address v 47 45 _ (inr (inr (inr refl))) (inl refl) (inr (inl refl)) (omega arith) (omega arith)
+      (sets_register_tame goto (Kept address) (kept_within (address ∷ v ∷ []) address (inl refl)) (omega arith) 4 45 44 done (omega arith) (omega arith)
+      (nothing_left (address ∷ v ∷ []) 44))))
 
   pop_tame : (to : Operand) → Reached to → Few (pops at after (λ v. moves at after width.Quad to v done))
   unfolding pops
   pop_tame to is =
       loads_tame goto (Register 4) (pointer_within [] 4 (omega arith)) (omega arith) at 8 62 59 _ (inr (inr (inr refl))) (omega arith) (omega arith)
-      (λ v. sets_register_tame goto (Operation ops.Add (Register 4) (Number 8)) (moved_by_eight (v ∷ []) ops.Add 4 (omega arith) (λ k. tt) (omega arith)) (omega arith) 4 59 55 _ (omega arith) (omega arith)
+      (λ v. sets_register_tame goto (Operation ops.Add (Register 4) (Number 8)) (above (v ∷ []) 4 (omega arith)) (omega arith) 4 59 55 _ (omega arith) (omega arith)
       (moves_tame goto at after (v ∷ []) width.Quad to v 55 43 done is (inl refl) (omega arith) (omega arith) (nothing_left (v ∷ []) 43)))
 
   leave_tame : Few (leaves_frame at after)
   unfolding leaves_frame
   leave_tame =
       loads_tame goto (Register 5) (pointer_within [] 5 (omega arith)) (omega arith) at 8 62 59 _ (inr (inr (inr refl))) (omega arith) (omega arith)
-      (λ v. sets_register_tame goto (Operation ops.Add (Register 5) (Number 8)) (moved_by_eight (v ∷ []) ops.Add 5 (omega arith) (λ k. tt) (omega arith)) (omega arith) 4 59 55 _ (omega arith) (omega arith)
+      (λ v. sets_register_tame goto (Operation ops.Add (Register 5) (Number 8)) (above (v ∷ []) 5 (omega arith)) (omega arith) 4 59 55 _ (omega arith) (omega arith)
       (sets_register_tame goto (Kept v) (kept_within (v ∷ []) v (inl refl)) (omega arith) 5 55 54 done (omega arith) (omega arith) (nothing_left (v ∷ []) 54)))
 
   -- conditions
@@ -155,33 +165,48 @@ module _ (at after goal : ℕ) where
           let c = condition_within (v ∷ []) code in
           let old = register_within (v ∷ []) w r is in
           let chosen_within : Within (v ∷ []) 4 14 (Choice (condition_formula code) (Kept v) (register_formula w r)) =
-              record { sound = (c.sound, inl refl, old.sound); in_room = omega (arith, c.in_room, old.in_room, own_one (condition_formula code), own_one (register_formula w r)); in_price = omega (arith, c.in_price, old.in_price) } in
+          record {
+            sound = (c.sound, inl refl, old.sound);
+            in_room = omega (arith, c.in_room, old.in_room, own_one (condition_formula code), own_one (register_formula w r));
+            in_price = omega (arith, c.in_price, old.in_price);
+          } in
           puts_tame goto w r _ 50 29 done chosen_within (omega arith) (omega arith) is (omega arith) (nothing_left (v ∷ []) 29)
       chosen (operand.Mem m) is v = nothing_left (v ∷ []) 50
       chosen (operand.Imm n) is v = nothing_left (v ∷ []) 50
 
   -- one operand that changes
 
+  -- the number 1
   one_within : (live : List ℕ) → Within live 1 1 (Number 1)
   one_within live = small_within live 1 (omega arith)
 
-  increases_tame : (w : Width) (to : Operand) → Reached to → Few (changes at after w to (λ a. clean w (Operation ops.Add a (Number 1))) (λ a r. sets_result w (sum_overflow w a (Number 1) r) r))
-  increases_tame w to is =
-      changes_tame goto at after [] w _ _ (omega arith) (λ seen a grows in_a. clean_within seen w _ (omega arith) (by_one seen a in_a))
-      (λ a r most left rest cost tame. sets_result_tame goto (r ∷ a ∷ []) w r _ (omega arith) (inl refl) (sum_overflow_within (r ∷ a ∷ []) w a r (Number 1) (inr (inl refl)) (inl refl) (one_within (r ∷ a ∷ []))) most left rest (omega (arith, cost)) tame)
-      nothing_left to 62 is (omega arith)
+  -- a value of the width, one more or less
+  by_one : (o : IrOp) → ((k : Known) → HasConstant o k) → op_cost o ≤ 1 → (w : Width) (seen : List ℕ) (a : ℕ) → Among seen a
+      → Within seen 3 5 (clean w (Operation o (Kept a) (Number 1)))
+  by_one o plain cheap w seen a in_a = clean_within seen w _ (omega arith) counted
     where
-      by_one : (seen : List ℕ) (a : ℕ) → Among seen a → Within seen 3 3 (Operation ops.Add (Kept a) (Number 1))
-      by_one seen a in_a = record { sound = (in_a, tt, ordinary (λ k. tt)); in_room = omega arith; in_price = omega arith }
+      counted : Within seen 3 3 (Operation o (Kept a) (Number 1))
+      counted = record { sound = (in_a, tt, ordinary plain); in_room = omega arith; in_price = omega (arith, cheap) }
 
-  decreases_tame : (w : Width) (to : Operand) → Reached to → Few (changes at after w to (λ a. clean w (Operation ops.Sub a (Number 1))) (λ a r. sets_result w (difference_overflow w a (Number 1) r) r))
-  decreases_tame w to is =
-      changes_tame goto at after [] w _ _ (omega arith) (λ seen a grows in_a. clean_within seen w _ (omega arith) (by_one seen a in_a))
-      (λ a r most left rest cost tame. sets_result_tame goto (r ∷ a ∷ []) w r _ (omega arith) (inl refl) (difference_overflow_within (r ∷ a ∷ []) w a r (Number 1) (inr (inl refl)) (inl refl) (one_within (r ∷ a ∷ []))) most left rest (omega (arith, cost)) tame)
+  increases_tame : (w : Width) (to : Operand) → Reached to
+      → Few (changes at after w to (λ a. clean w (Operation ops.Add a (Number 1))) (λ a r. sets_result w (sum_overflow w a (Number 1) r) r))
+  increases_tame w to is =
+      changes_tame goto at after [] w _ _ (omega arith) (λ seen a grows in_a. by_one ops.Add (λ k. tt) (omega arith) w seen a in_a)
+      (λ a r most left rest cost tame. sets_result_tame goto (r ∷ a ∷ []) w r _ (omega arith) (inl refl) (overflow a r) most left rest (omega (arith, cost)) tame)
       nothing_left to 62 is (omega arith)
     where
-      by_one : (seen : List ℕ) (a : ℕ) → Among seen a → Within seen 3 3 (Operation ops.Sub (Kept a) (Number 1))
-      by_one seen a in_a = record { sound = (in_a, tt, ordinary (λ k. tt)); in_room = omega arith; in_price = omega arith }
+      overflow : (a r : ℕ) → Within (r ∷ a ∷ []) 3 6 (sum_overflow w (Kept a) (Number 1) (Kept r))
+      overflow a r = sum_overflow_within (r ∷ a ∷ []) w a r (Number 1) (inr (inl refl)) (inl refl) (one_within (r ∷ a ∷ []))
+
+  decreases_tame : (w : Width) (to : Operand) → Reached to
+      → Few (changes at after w to (λ a. clean w (Operation ops.Sub a (Number 1))) (λ a r. sets_result w (difference_overflow w a (Number 1) r) r))
+  decreases_tame w to is =
+      changes_tame goto at after [] w _ _ (omega arith) (λ seen a grows in_a. by_one ops.Sub (λ k. tt) (omega arith) w seen a in_a)
+      (λ a r most left rest cost tame. sets_result_tame goto (r ∷ a ∷ []) w r _ (omega arith) (inl refl) (overflow a r) most left rest (omega (arith, cost)) tame)
+      nothing_left to 62 is (omega arith)
+    where
+      overflow : (a r : ℕ) → Within (r ∷ a ∷ []) 3 6 (difference_overflow w (Kept a) (Number 1) (Kept r))
+      overflow a r = difference_overflow_within (r ∷ a ∷ []) w a r (Number 1) (inr (inl refl)) (inl refl) (one_within (r ∷ a ∷ []))
 
   turns_tame : (w : Width) (to : Operand) → Reached to → Few (changes at after w to (λ a. Operation ops.Xor a (Number (ones (bits w)))) (λ a r rest. rest))
   turns_tame w to is =
@@ -194,7 +219,8 @@ module _ (at after goal : ℕ) where
       → Few (changes at after w to (λ a. clean w (Operation ops.Sub (Number 0) a)) (λ a r. sets_flags w (top w (Operation ops.And a r)) (borrow (Number 0) a) r))
   negates_tame w to is =
       changes_tame goto at after [] w _ _ (omega arith) (λ seen a grows in_a. clean_within seen w _ (omega arith) (negated seen a in_a))
-      (λ a r most left rest cost tame. sets_flags_tame goto (r ∷ a ∷ []) w r _ (omega arith) (inl refl) (top_within (r ∷ a ∷ []) {most_price = 4} w _ (omega arith) (both a r)) _ most left rest (borrowed a r) cost tame)
+      (λ a r most left rest cost tame. sets_flags_tame goto (r ∷ a ∷ []) w r _ (omega arith) (inl refl) (top_within (r ∷ a ∷ []) w _ (omega arith) (both a r)) _ most left rest
+      (borrowed a r) cost tame)
       nothing_left to 62 is (omega arith)
     where
       negated : (seen : List ℕ) (a : ℕ) → Among seen a → Within seen 3 3 (Operation ops.Sub (Number 0) (Kept a))
@@ -216,34 +242,38 @@ module _ (at after goal : ℕ) where
   extends_tame : (w v : Width) (to from : Operand) → Reached to → Reached from → Few (fetches at after v from (λ a. puts_operand at after w to a done))
   extends_tame w v to from is_to is_from =
       fetches_tame goto at after [] v from 62 50 _ is_from (omega arith) (omega (arith, fetch_most from))
-      (λ a. puts_operand_tame goto at after w to (Kept a) 50 43 done (kept_in_three (a ∷ []) a (inl refl)) (omega arith) (omega arith) is_to (omega arith) (nothing_left (a ∷ []) 43))
+      (λ a. puts_kept_operand_tame goto at after (a ∷ []) w to a 50 43 done is_to (inl refl) (omega arith) (omega arith) (nothing_left (a ∷ []) 43))
 
   sign_extends_tame : (to from : Operand) → Reached to → Reached from → Few (fetches at after width.Long from (λ a. puts_operand at after width.Quad to (with_sign width.Long a) done))
   sign_extends_tame to from is_to is_from =
       fetches_tame goto at after [] width.Long from 62 50 _ is_from (omega arith) (omega (arith, fetch_most from))
-      (λ a. puts_operand_tame goto at after width.Quad to _ 50 0 done (with_sign_within (a ∷ []) width.Long (Kept a) (omega arith) (kept_in_three (a ∷ []) a (inl refl))) (omega arith) (omega arith) is_to (omega arith)
-      (nothing_left (a ∷ []) 0))
+      (λ a. puts_operand_tame goto at after width.Quad to _ 50 0 done (with_sign_within (a ∷ []) width.Long (Kept a) (omega arith) (kept_in_three (a ∷ []) a (inl refl)))
+      (omega arith) (omega arith) is_to (omega arith) (nothing_left (a ∷ []) 0))
 
   signed_tame : (w v : Width) (to from : Operand) → Reached to → Reached from → Few (fetches at after v from (λ a. puts_operand at after w to (clean w (with_sign v a)) done))
   signed_tame w v to from is_to is_from =
       fetches_tame goto at after [] v from 62 50 _ is_from (omega arith) (omega (arith, fetch_most from))
-      (λ a. puts_operand_tame goto at after w to _ 50 0 done (clean_within (a ∷ []) w _ (omega arith) (with_sign_within (a ∷ []) v (Kept a) (omega arith) (kept_in_three (a ∷ []) a (inl refl)))) (omega arith) (omega arith) is_to (omega arith)
-      (nothing_left (a ∷ []) 0))
+      (λ a. puts_operand_tame goto at after w to _ 50 0 done
+      (clean_within (a ∷ []) w _ (omega arith) (with_sign_within (a ∷ []) v (Kept a) (omega arith) (kept_in_three (a ∷ []) a (inl refl))))
+      (omega arith) (omega arith) is_to (omega arith) (nothing_left (a ∷ []) 0))
 
   widens_tame : (w : Width) → Few (puts w rax (clean w (with_sign (half w) (register_formula (half w) rax))) done)
   widens_tame w =
-      puts_tame goto w rax _ 62 0 done (clean_within [] w _ (omega arith) (with_sign_within [] (half w) _ (omega arith) (register_within [] (half w) rax (omega arith)))) (omega arith) (omega arith) (omega arith) (omega arith) (nothing_left [] 0)
+      puts_tame goto w rax _ 62 0 done (clean_within [] w _ (omega arith) (with_sign_within [] (half w) _ (omega arith) (register_within [] (half w) rax (omega arith))))
+      (omega arith) (omega arith) (omega arith) (omega arith) (nothing_left [] 0)
 
   fills_tame : (w : Width) → Few (puts w (upper w) (clean w (Operation ops.Sar (with_sign w (register_formula w rax)) (Number 63))) done)
   fills_tame w =
       let old = with_sign_within [] w _ (omega arith) (register_within [] w rax (omega arith)) in
       let shifted : Within [] 3 9 (Operation ops.Sar (with_sign w (register_formula w rax)) (Number 63)) =
-          record { sound = (old.sound, tt, ordinary (λ k. tt)); in_room = omega (arith, old.in_room, own_one (with_sign w (register_formula w rax))); in_price = omega (arith, old.in_price) } in
+      record { sound = (old.sound, tt, ordinary (λ k. tt)); in_room = omega (arith, old.in_room, own_one (with_sign w (register_formula w rax))); in_price = omega (arith, old.in_price) } in
       puts_tame goto w (upper w) _ 62 0 done (clean_within [] w _ (omega arith) shifted) (omega arith) (omega arith) (there w) (omega arith) (nothing_left [] 0)
     where
       there : (w : Width) → (upper w).number < 16
       there width.Byte = omega arith
       there w = omega arith
+
+  -- MFENCE
 
   fences_tame : Few (fences at after)
   fences_tame next = acting {left = 0} refl tt (λ known. tt) (omega arith) (omega arith) (ended tt tt)
@@ -255,7 +285,7 @@ return_tame at after temps =
     let end = ends.Return (temp (temps + 1)) in
     let live = (temps + 1) ∷ [] in
     loads_at end (Register 4) (pointer_within [] 4 (omega arith)) (omega arith) at 8 62 59 _ temps (inr (inr (inr refl))) (omega arith) (omega arith)
-    (sets_register_tame end (Operation ops.Add (Register 4) (Number 8)) (moved_by_eight live ops.Add 4 (omega arith) (λ k. tt) (omega arith)) (omega arith) 4 59 55 done (omega arith) (omega arith)
+    (sets_register_tame end (Operation ops.Add (Register 4) (Number 8)) (above live 4 (omega arith)) (omega arith) 4 59 55 done (omega arith) (omega arith)
     (done_tame end live 55 (inl refl, tt) tt) (temps + 1 + 1))
 
 -- each instruction that is lifted
@@ -268,13 +298,15 @@ lifts_tame at after next temps (instr.Mov w to from) formed built = let is = rea
 lifts_tame at after next temps (instr.Lea w to from) formed built = address_tame at after next w to from (reached_register w to formed.1.0) formed.1.1 temps
 lifts_tame at after next temps (instr.MovZx w v to from) formed built = extends_tame at after next w v to from (reached_register w to formed.1.1.0) (reached_stored v from formed.1.1.1) temps
 lifts_tame at after next temps (instr.MovSx w v to from) formed built = signed_tame at after next w v to from (reached_register w to formed.1.1.0) (reached_stored v from formed.1.1.1) temps
-lifts_tame at after next temps (instr.MovSxd to from) formed built = sign_extends_tame at after next to from (reached_register width.Quad to formed.0) (reached_stored width.Long from formed.1) temps
+lifts_tame at after next temps (instr.MovSxd to from) formed built =
+    sign_extends_tame at after next to from (reached_register width.Quad to formed.0) (reached_stored width.Long from formed.1) temps
 lifts_tame at after next temps (instr.Push from) formed built = pushes_tame at after next from (reached_pushed from formed) temps
 lifts_tame at after next temps (instr.Pop to) formed built = pop_tame at after next to (reached_stored width.Quad to formed) temps
 lifts_tame at after next temps instr.Leave formed built = leave_tame at after next temps
 lifts_tame at after next temps instr.Ret formed built = return_tame at after temps
 lifts_tame at after next temps (instr.SetCc c to) formed built = sets_condition_tame at after next c.code to (reached_stored width.Byte to formed.1) temps
-lifts_tame at after next temps (instr.CmovCc c w to from) formed built = chooses_tame at after next c.code w to from (reached_register w to formed.1.1.0) (reached_stored w from formed.1.1.1) temps
+lifts_tame at after next temps (instr.CmovCc c w to from) formed built =
+    chooses_tame at after next c.code w to from (reached_register w to formed.1.1.0) (reached_stored w from formed.1.1.1) temps
 lifts_tame at after next temps (instr.Inc w to locked) formed built = increases_tame at after next w to (reached_stored w to formed.0) temps
 lifts_tame at after next temps (instr.Dec w to locked) formed built = decreases_tame at after next w to (reached_stored w to formed.0) temps
 lifts_tame at after next temps (instr.Not w to locked) formed built = turns_tame at after next w to (reached_stored w to formed.0) temps

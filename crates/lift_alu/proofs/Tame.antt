@@ -1,13 +1,13 @@
 -- Steps that set their own temporaries in order, cost little and have few live: one predicate on lists of steps, and what it says
 -- of a block.
-use Rattle.std.proofs.Common.{◌≡◌, ◌≢◌, ℕ, zero, suc, ◌+◌, ◌<◌, ◌≤◌, ◌==◌, Bool, true, false, eqb, List, [], ◌∷◌, ◌++◌, length, Option, Some, None, slice_index_or, refl, sym, ap, ◌∙◌, subst, inl, inr, ◌⊎◌, arith}
-use Rattle.std.specs.Prelude.{if◌then◌else◌, Contains}
+use Rattle.std.proofs.Common.{◌≡◌, ℕ, zero, suc, ◌+◌, ◌<◌, ◌≤◌, ◌==◌, Bool, true, false, eqb, List, [], ◌∷◌, ◌++◌, length, Option, Some, None, slice_index_or, refl, sym, ap, ◌∙◌, subst, inl, inr, ◌⊎◌, arith}
+use Rattle.std.specs.Prelude.{if◌then◌else◌}
 use Rattle.std.specs.List.{AllByRecursion, IsDistinct}
 use Rattle.std.proofs.lemmas.Bool.{cases_lt}
 use Rattle.std.proofs.lemmas.Bool.Decides.{nat_tests}
 use Rattle.std.proofs.lemmas.Map.Keys.{IsDistinct-head, IsDistinct-tail}
-use Rattle.limm_ir.specs.Conditions.{step_reads, step_sets, end_reads, Known, Unset, Set, Constant, IsSet, know, learn, IsExtended, HasConstant, InRange, IsEndInRange, IsWell, IsSetIn, SetsOnce, IsRead, IsLiveAt, LiveAtMost}
-use Rattle.limm_ir.specs.Costs.{op_cost, number_cost, step_cost, fence_cost, fenced_cost, cost_of}
+use Rattle.limm_ir.specs.Conditions.{step_reads, step_sets, end_reads, Known, Set, Constant, IsSet, know, learn, IsExtended, HasConstant, InRange, IsEndInRange, IsWell, IsSetIn, SetsOnce, IsRead, LiveAtMost}
+use Rattle.limm_ir.specs.Costs.{op_cost, number_cost, fenced_cost, cost_of}
 use Rattle.limm_ir.specs.declared.block.IrEnd.{IrEnd}
 use Rattle.limm_ir.specs.declared.step.IrOp.{IrOp}
 use Rattle.limm_ir.specs.declared.step.IrOp.TheVariants.{ZeroExt, SignExt}
@@ -39,6 +39,7 @@ pub data Tame (end : IrEnd) : (live : List ℕ) → (next most : ℕ) → List I
       → ((known : ℕ → Known) → InRange known x) → length live ≤ 6 → fenced_cost x + left ≤ most → Tame end live next left xs
       → Tame end live next most (x ∷ xs)
 
+-- what two options hold that are the same
 some_same : {a b : ℕ} → Some a ≡ Some b → a ≡ b
 some_same same = cc
 
@@ -50,6 +51,7 @@ has_constant op k is = tt
 
 -- ---- costs
 
+-- the steps cost at most so much
 pub tame_cost : {end : IrEnd} {live : List ℕ} {next most : ℕ} {xs : List IrStep} → Tame end live next most xs → cost_of fenced_cost xs ≤ most
 tame_cost (ended reads range) = omega arith
 tame_cost (dropped fewer rest) = tame_cost rest
@@ -67,6 +69,7 @@ tame_more le (acting none reads range few cost rest) = acting none reads range f
 
 -- ---- the steps are well made
 
+-- what is set stays set where a temporary is known to be otherwise
 know_keeps : (o : Option ℕ) (k : Known) (known : ℕ → Known) (t : ℕ) → IsSet k → IsSet (known t) → IsSet (know o k known t)
 know_keeps None k known t set was = was
 know_keeps (Some n) k known t set was = either (t == n)
@@ -75,6 +78,7 @@ know_keeps (Some n) k known t set was = either (t == n)
     either true = set
     either false = was
 
+-- what is known of the temporary that is known to be otherwise
 know_new : (P : Known → Type 0) (n : ℕ) (k : Known) (known : ℕ → Known) (t : ℕ) → t ≡ n → P k → P (know (Some n) k known t)
 know_new P n k known t same holds = at (t == n) (grind (arith, nat_tests))
   where
@@ -82,7 +86,7 @@ know_new P n k known t same holds = at (t == n) (grind (arith, nat_tests))
     at true is = holds
     at false is = absurd cc
 
--- what is set stays set
+-- what is set stays set behind a step
 learn_keeps : (x : IrStep) (known : ℕ → Known) (t : ℕ) → IsSet (known t) → IsSet (learn x known t)
 learn_keeps (steps.Const n v) known t was = know_keeps (Some n.0) (Constant v) known t tt was
 learn_keeps x known t was = know_keeps (step_sets x) Set known t tt was
@@ -92,24 +96,34 @@ learn_new : (x : IrStep) (known : ℕ → Known) (n t : ℕ) → step_sets x ≡
 learn_new (steps.Const m v) known n t sets same = know_new IsSet m.0 (Constant v) known t (cc) tt
 learn_new x known n t sets same = subst (λ o. IsSet (know o Set known t)) (sym sets) (know_new IsSet n Set known t same tt)
 
+-- what follows from what holds of each
 each : {P Q : ℕ → Type 0} (xs : List ℕ) → ((t : ℕ) → P t → Q t) → AllByRecursion P xs → AllByRecursion Q xs
 each [] f all = tt
 each (x ∷ xs) f all = (f x all.0, each xs f all.1)
 
-set_behind : (x : IrStep) (known : ℕ → Known) (live : List ℕ) (next : ℕ) → step_sets x ≡ Some next → ((t : ℕ) → Among live t → IsSet (known t)) → (t : ℕ) → Among (next ∷ live) t → IsSet (learn x known t)
+-- behind a step that sets the next temporary, this one is set too
+set_behind : (x : IrStep) (known : ℕ → Known) (live : List ℕ) (next : ℕ) → step_sets x ≡ Some next → ((t : ℕ) → Among live t → IsSet (known t)) → (t : ℕ)
+    → Among (next ∷ live) t → IsSet (learn x known t)
 set_behind x known live next sets are t (inl same) = learn_new x known next t sets same
 set_behind x known live next sets are t (inr in_live) = learn_keeps x known t (are t in_live)
 
-pub tame_well : {end : IrEnd} {live : List ℕ} {next most : ℕ} {xs : List IrStep} → Tame end live next most xs → (known : ℕ → Known) → ((t : ℕ) → Among live t → IsSet (known t)) → IsWell end known xs
+-- the steps are well made, where all that may be read is set
+pub tame_well : {end : IrEnd} {live : List ℕ} {next most : ℕ} {xs : List IrStep} → Tame end live next most xs → (known : ℕ → Known)
+    → ((t : ℕ) → Among live t → IsSet (known t)) → IsWell end known xs
 tame_well (ended reads range) known are = (each _ are reads, range)
 tame_well (dropped fewer rest) known are = tame_well rest known (λ t among. are t (fewer t among))
 tame_well (setting {live = live} {next = next} {x = x} sets reads range few more cost rest) known are =
     (each _ are reads, range known, tame_well rest (learn x known) (set_behind x known live next sets are))
 tame_well (extending {live = live} {next = next} {op = op} {a = a} {v = v} among extended few more cost rest) known are =
-    let k = know (Some next) (Constant v) known in
-    (tt, tt, ((know_keeps (Some next) (Constant v) known a tt (are a among), (know_new IsSet next (Constant v) known next refl tt, tt)),
-    has_constant op (k next) (know_new IsExtended next (Constant v) known next refl extended),
-    tame_well rest (know (Some (suc next)) Set k) (behind k (λ t in_live. know_keeps (Some next) (Constant v) known t tt (are t in_live)))))
+    let k = know (Some next) (Constant v) known in (
+      tt,
+      tt,
+      (
+        (know_keeps (Some next) (Constant v) known a tt (are a among), (know_new IsSet next (Constant v) known next refl tt, tt)),
+        has_constant op (k next) (know_new IsExtended next (Constant v) known next refl extended),
+        tame_well rest (know (Some (suc next)) Set k) (behind k (λ t in_live. know_keeps (Some next) (Constant v) known t tt (are t in_live))),
+      ),
+    )
   where
     behind : (k : ℕ → Known) → ((t : ℕ) → Among live t → IsSet (k t)) → (t : ℕ) → Among (suc next ∷ live) t → IsSet (know (Some (suc next)) Set k t)
     behind k are t (inl same) = know_new IsSet (suc next) Set k t same tt
@@ -118,7 +132,7 @@ tame_well (acting {x = x} none reads range few cost rest) known are = (each _ ar
 
 -- ---- each temporary is set once
 
--- the temporaries that are set
+-- the temporaries that are set are no more than the steps may cost
 pub tame_sets : {end : IrEnd} {live : List ℕ} {next most : ℕ} {xs : List IrStep} → Tame end live next most xs → (t : ℕ) → IsSetIn xs t → (next ≤ t) × (t < next + most)
 tame_sets (ended reads range) t set = elim set [ ]
 tame_sets (dropped fewer rest) t set = tame_sets rest t set
@@ -130,11 +144,13 @@ tame_sets (extending among extended few more cost rest) t (inr (inr later)) = le
 tame_sets (acting none reads range few cost rest) t (inl now) = absurd cc
 tame_sets (acting none reads range few cost rest) t (inr later) = let within = tame_sets rest t later in (omega (arith, within), omega (arith, within))
 
+-- none is set twice
 pub tame_once : {end : IrEnd} {live : List ℕ} {next most : ℕ} {xs : List IrStep} → Tame end live next most xs → SetsOnce xs
 tame_once (ended reads range) = tt
 tame_once (dropped fewer rest) = tame_once rest
 tame_once (setting sets reads range few more cost rest) = (λ t now later. absurd (omega (arith, tame_sets rest t later, some_same (sym now ∙ sets))), tame_once rest)
-tame_once (extending {next = next} {xs = xs} among extended few more cost rest) = (λ t now later. absurd (once t (some_same now) later), (λ t now later. absurd (omega (arith, tame_sets rest t later, some_same now)), tame_once rest))
+tame_once (extending {next = next} {xs = xs} among extended few more cost rest) =
+    (λ t now later. absurd (once t (some_same now) later), (λ t now later. absurd (omega (arith, tame_sets rest t later, some_same now)), tame_once rest))
   where
     once : (t : ℕ) → next ≡ t → (Some (suc next) ≡ Some t) ⊎ IsSetIn xs t → ⊥
     once t same (inl twice) = omega (arith, same, some_same twice)
@@ -184,7 +200,8 @@ SixAt end next before x behind = (six : List ℕ) × (length six ≤ 6) × ((t :
 
 module _ (end : IrEnd) (x : IrStep) (behind : List IrStep) where
   -- at a step that sets a temporary, where the others that are read from it on and were set before are some of `live`
-  at_setting : (live : List ℕ) (next : ℕ) → length live ≤ 5 → step_sets x ≡ Some next → ((t : ℕ) → t < next → IsRead end (x ∷ behind) t → Among live t) → SixAt end next [] x behind
+  at_setting : (live : List ℕ) (next : ℕ) → length live ≤ 5 → step_sets x ≡ Some next
+      → ((t : ℕ) → t < next → IsRead end (x ∷ behind) t → Among live t) → SixAt end next [] x behind
   at_setting live next few sets reads = (next ∷ live, omega (arith, few), among)
     where
       among : (t : ℕ) → LiveHere end next [] x behind t → Among (next ∷ live) t
@@ -193,7 +210,9 @@ module _ (end : IrEnd) (x : IrStep) (behind : List IrStep) where
       among t (inr (inl none), inr read) = elim none [ ]
       among t (inr (inr now), inr read) = inl (some_same (sym now ∙ sets))
 
-  at_acting : (live : List ℕ) (next : ℕ) → length live ≤ 6 → step_sets x ≡ None → ((t : ℕ) → t < next → IsRead end (x ∷ behind) t → Among live t) → SixAt end next [] x behind
+  -- at a step that sets none
+  at_acting : (live : List ℕ) (next : ℕ) → length live ≤ 6 → step_sets x ≡ None
+      → ((t : ℕ) → t < next → IsRead end (x ∷ behind) t → Among live t) → SixAt end next [] x behind
   at_acting live next few none reads = (live, few, among)
     where
       among : (t : ℕ) → LiveHere end next [] x behind t → Among live t
@@ -203,26 +222,32 @@ module _ (end : IrEnd) (x : IrStep) (behind : List IrStep) where
       among t (inr (inr now), inr read) = absurd cc
 
   -- one step later, where it set the temporary `next` or none
-  later : (y : IrStep) (before : List IrStep) (next after : ℕ) → next ≤ after → ((t : ℕ) → step_sets y ≡ Some t → t < after) → SixAt end after before x behind → SixAt end next (y ∷ before) x behind
+  later : (y : IrStep) (before : List IrStep) (next after : ℕ) → next ≤ after → ((t : ℕ) → step_sets y ≡ Some t → t < after) → SixAt end after before x behind
+      → SixAt end next (y ∷ before) x behind
   later y before next after le sets (six, few, among) = (six, few, λ t live. among t (moved t live.0, live.1))
     where
-      moved : (t : ℕ) → (t < next) ⊎ ((step_sets y ≡ Some t) ⊎ IsSetIn before t) ⊎ (step_sets x ≡ Some t) → (t < after) ⊎ (IsSetIn before t ⊎ (step_sets x ≡ Some t))
+      moved : (t : ℕ) → (t < next) ⊎ ((step_sets y ≡ Some t) ⊎ IsSetIn before t) ⊎ (step_sets x ≡ Some t)
+          → (t < after) ⊎ (IsSetIn before t ⊎ (step_sets x ≡ Some t))
       moved t (inl old) = inl (omega (arith, old, le))
       moved t (inr (inl (inl set))) = inl (sets t set)
       moved t (inr (inl (inr set))) = inr (inl set)
       moved t (inr (inr set)) = inr (inr set)
 
+-- no step stands in no steps
 nothing_there : (before : List IrStep) (x : IrStep) (behind : List IrStep) → [] ≡ before ++ x ∷ behind → ⊥
 nothing_there [] x behind is = cc
 nothing_there (y ∷ before) x behind is = cc
 
+-- the first of the same steps, and the rest
 same_head : {x y : IrStep} {xs ys : List IrStep} → x ∷ xs ≡ y ∷ ys → x ≡ y
 same_head is = cc
 
 same_tail : {x y : IrStep} {xs ys : List IrStep} → x ∷ xs ≡ y ∷ ys → xs ≡ ys
 same_tail is = cc
 
-tame_six : {end : IrEnd} {live : List ℕ} {next most : ℕ} {xs : List IrStep} → Tame end live next most xs → (before : List IrStep) (x : IrStep) (behind : List IrStep) → xs ≡ before ++ x ∷ behind
+-- what is live at a step is among six temporaries
+tame_six : {end : IrEnd} {live : List ℕ} {next most : ℕ} {xs : List IrStep} → Tame end live next most xs → (before : List IrStep) (x : IrStep) (behind : List IrStep)
+    → xs ≡ before ++ x ∷ behind
     → SixAt end next before x behind
 tame_six (ended reads range) before x behind is = absurd (nothing_there before x behind is)
 tame_six {end = end} {next = next} (dropped fewer rest) before x behind is = tame_six rest before x behind is
@@ -271,16 +296,20 @@ without (x ∷ xs) t (inr among) = let (ys, count, rest) = without xs t among in
     with_first ys rest u differs (inl same) = inl same
     with_first ys rest u differs (inr among) = inr (rest u differs among)
 
-all_without : (t : ℕ) (us xs ys : List ℕ) → ((u : ℕ) → eqb t u ≡ false → Among xs u → Among ys u) → AllByRecursion (λ u. eqb t u ≡ false) us → AllByRecursion (Among xs) us → AllByRecursion (Among ys) us
+-- those that differ from an element are among the others
+all_without : (t : ℕ) (us xs ys : List ℕ) → ((u : ℕ) → eqb t u ≡ false → Among xs u → Among ys u) → AllByRecursion (λ u. eqb t u ≡ false) us
+    → AllByRecursion (Among xs) us → AllByRecursion (Among ys) us
 all_without t [] xs ys rest differ among = tt
 all_without t (u ∷ us) xs ys rest differ among = (rest u differ.0 among.0, all_without t us xs ys rest differ.1 among.1)
 
+-- different elements of a list are no more than it has
 no_more : (ts xs : List ℕ) → IsDistinct eqb ts → AllByRecursion (Among xs) ts → length ts ≤ length xs
 no_more [] xs distinct among = omega arith
 no_more (t ∷ ts) xs distinct among =
     let (ys, count, rest) = without xs t among.0 in
     omega (arith, count, no_more ts ys (IsDistinct-tail eqb t ts distinct) (all_without t ts xs ys rest (IsDistinct-head eqb t ts distinct) among.1))
 
+-- at each step at most six temporaries are live
 pub tame_few : {end : IrEnd} {live : List ℕ} {next most : ℕ} {xs : List IrStep} → Tame end live next most xs → LiveAtMost 6 end xs
 tame_few tame before x behind is ts distinct live =
     let (six, few, among) = tame_six tame before x behind is in
