@@ -1,5 +1,5 @@
 -- Liftings whose steps are selectable: what is computed, loaded, stored and set, and then what comes behind.
-use Rattle.std.proofs.Common.{ℕ, suc, ◌+◌, ◌<◌, ◌≤◌, List, [], ◌∷◌, ◌++◌, length, refl, sym, subst, inl, inr, arith}
+use Rattle.std.proofs.Common.{ℕ, suc, ◌+◌, ◌<◌, ◌≤◌, List, ◌∷◌, ◌++◌, length, refl, sym, subst, inl, inr, arith}
 use Rattle.std.specs.List.{AllByRecursion}
 use Rattle.x64_syntax.specs.declared.operand.Width.{Width}
 use Rattle.limm_ir.specs.Conditions.{end_reads, IsEndInRange, IsSize}

@@ -26,7 +26,7 @@ use Rattle.lift_alu.specs.Flags.{top, sum_overflow, difference_overflow, borrow,
 use Rattle.lift_alu.specs.Lifted.{puts, fetches, puts_operand, changes, result, flags_of, compares, combines, lifts_alu, takes_address, exchanges, adds_exchanged, pushes, pops, leaves_frame, chooses, fences, moves, lifts}
 use Rattle.lift_alu.specs.Meant.{end_from, SetsFrom}
 use Rattle.lift_alu.proofs.Tame.{Among, Tame, tame_more, ended, acting, tame_cost, tame_well, tame_sets, tame_once, tame_few}
-use Rattle.lift_alu.proofs.Modest.{ordinary, own_one, Within, within_more}
+use Rattle.lift_alu.proofs.Modest.{ordinary, own_one, Within}
 use Rattle.lift_alu.proofs.Bounds.{number_most, kept_within, small_within, clean_within, with_sign_within, register_within, address_within, top_within, result_within, sum_overflow_within, difference_overflow_within, condition_within}
 use Rattle.lift_alu.proofs.Liftings.{TameLifting, less_live, done_tame, keeps_tame, sets_register_tame, loads_at, loads_tame, stores_tame, sets_result_tame, sets_flags_tame}
 use Rattle.lift_alu.proofs.OperandSteps.{Reached, reached_stored, reached_register, reached_number, reached_pair, fetch_price, fetch_most, puts_tame, fetches_tame, moves_tame, kept_in_three, puts_operand_tame, puts_kept_operand_tame, flags_tame, changes_tame}
