@@ -15,3 +15,9 @@ mod LiftedArithmetic
 mod LiftedSteps
 mod Meaning
 mod Unlocked
+mod Tame
+mod Modest
+mod Bounds
+mod Liftings
+mod OperandSteps
+mod Selectable

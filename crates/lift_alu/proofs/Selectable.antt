@@ -1,19 +1,341 @@
 -- The steps of an instruction cost little, use their own temporaries, and have few of them live.
-use Rattle.std.proofs.Common.{◌≡◌, ℕ, ◌^◌, ◌<◌, ◌≤◌, true}
-use Rattle.x64_syntax.specs.Formed.{IsFormed}
+use Rattle.std.proofs.Common.{◌≡◌, ℕ, ◌+◌, ◌^◌, ◌<◌, ◌≤◌, true, List, [], ◌∷◌, refl, inl, inr, ◌⊎◌, arith}
+use Rattle.word_arith.specs.Masks.{ones}
+use Rattle.x64_syntax.specs.Formed.{IsFormed, IsStored, IsNumber, IsInRegister, IsInMemory}
+use Rattle.x64_syntax.specs.Operands.{bits}
+use Rattle.x64_syntax.specs.declared.instr.AluOp.{AluOp}
+use Rattle.x64_syntax.specs.declared.instr.AluOp.TheVariants as op
 use Rattle.x64_syntax.specs.declared.instr.Instr.{Instr}
-use Rattle.limm_ir.specs.Conditions.{IsSelectable}
-use Rattle.limm_ir.specs.Costs.{cost_of, fenced_cost}
+use Rattle.x64_syntax.specs.declared.instr.Instr.TheVariants as instr
+use Rattle.x64_syntax.specs.declared.operand.Operand.{Operand}
+use Rattle.x64_syntax.specs.declared.operand.Operand.TheVariants as operand
+use Rattle.x64_syntax.specs.declared.operand.Width.{Width}
+use Rattle.x64_syntax.specs.declared.operand.Width.TheVariants as width
+use Rattle.x64_table.specs.State.{rax, upper}
+use Rattle.x64_table.specs.Rows.{half}
+use Rattle.limm_ir.specs.Conditions.{IsSelectable, Known, Unset, HasConstant}
+use Rattle.limm_ir.specs.Costs.{op_cost, cost_of, fenced_cost}
+use Rattle.limm_ir.specs.declared.block.IrEnd.{IrEnd}
+use Rattle.limm_ir.specs.declared.block.IrEnd.TheVariants as ends
+use Rattle.limm_ir.specs.declared.step.IrOp.{IrOp}
+use Rattle.limm_ir.specs.declared.step.IrOp.TheVariants as ops
 use Rattle.lift_alu.specs.Built.{is_built}
-use Rattle.lift_alu.specs.Lifted.{lifts}
+use Rattle.lift_alu.specs.Formulas.{Kept, Number, Register, Operation, Choice, Lifting, done, temp, keeps}
+use Rattle.lift_alu.specs.Operands.{clean, with_sign, register_formula}
+use Rattle.lift_alu.specs.Flags.{top, sum_overflow, difference_overflow, borrow, sets_result, sets_flags, condition_formula}
+use Rattle.lift_alu.specs.Lifted.{puts, fetches, puts_operand, changes, result, flags_of, compares, combines, lifts_alu, takes_address, exchanges, adds_exchanged, pushes, pops, leaves_frame, chooses, fences, moves, lifts}
 use Rattle.lift_alu.specs.Meant.{end_from, SetsFrom}
+use Rattle.lift_alu.proofs.Tame.{Among, Tame, tame_more, ended, acting, tame_cost, tame_well, tame_sets, tame_once, tame_few}
+use Rattle.lift_alu.proofs.Modest.{ordinary, own_one, Within}
+use Rattle.lift_alu.proofs.Bounds.{number_most, kept_within, small_within, clean_within, with_sign_within, register_within, address_within, top_within, result_within, sum_overflow_within, difference_overflow_within, condition_within}
+use Rattle.lift_alu.proofs.Liftings.{TameLifting, less_live, done_tame, keeps_tame, sets_register_tame, loads_at, loads_tame, stores_tame, sets_result_tame, sets_flags_tame}
+use Rattle.lift_alu.proofs.OperandSteps.{Reached, reached_stored, reached_register, reached_number, reached_pair, fetch_price, fetch_most, puts_tame, fetches_tame, moves_tame, kept_in_three, puts_operand_tame, puts_kept_operand_tame, flags_tame, changes_tame}
+
+-- the stack pointer, or the frame's, eight bytes further up or down
+above : (live : List ℕ) (r : ℕ) → r < 16 → Within live 3 3 (Operation ops.Add (Register r) (Number 8))
+above live r is = record { sound = (is, tt, ordinary (λ k. tt)); in_room = omega arith; in_price = omega arith }
+
+below : (live : List ℕ) (r : ℕ) → r < 16 → Within live 3 3 (Operation ops.Sub (Register r) (Number 8))
+below live r is = record { sound = (is, tt, ordinary (λ k. tt)); in_room = omega arith; in_price = omega arith }
+
+-- what is in a register
+pointer_within : (live : List ℕ) (r : ℕ) → r < 16 → Within live 1 1 (Register r)
+pointer_within live r is = record { sound = is; in_room = omega arith; in_price = omega arith }
+
+-- a register is fetched at less cost
+fetch_register : (w : Width) (o : Operand) → IsInRegister w o → fetch_price o ≤ 5
+fetch_register w (operand.Reg r) is = omega arith
+fetch_register w (operand.Mem m) is = elim is [ ]
+fetch_register w (operand.Imm n) is = elim is [ ]
+
+-- what is pushed
+reached_pushed : (o : Operand) → (IsStored width.Quad o ⊎ IsNumber width.Quad o) → Reached o
+reached_pushed o (inl stored) = reached_stored width.Quad o stored
+reached_pushed o (inr number) = reached_number width.Quad o number
+
+module _ (at after goal : ℕ) where
+  -- the block goes on where these instructions end
+  abbrev goto : IrEnd
+  goto = ends.Goto goal
+
+  -- a lifting that begins with nothing live, and costs at most 62
+  abbrev Few : Lifting → Type 0
+  Few l = TameLifting goto [] 62 l
+
+  -- nothing is left to do, and nothing is read any more
+  nothing_left : (live : List ℕ) (most : ℕ) → TameLifting goto live most done
+  nothing_left live most = done_tame goto live most tt tt
+
+  -- two operands and an operation
+
+  compares_tame : (o : AluOp) (w : Width) (to from : Operand) → Reached to → Reached from → Few (compares at after o w to from)
+  unfolding compares
+  compares_tame o w to from is_to is_from =
+      fetches_tame goto at after [] w to 62 50 _ is_to (omega arith) (omega (arith, fetch_most to))
+      (λ a. fetches_tame goto at after (a ∷ []) w from 50 38 _ is_from (omega arith) (omega (arith, fetch_most from))
+      (λ b. keeps_tame goto (result at after o w (Kept a) (Kept b)) (result_within (b ∷ a ∷ []) at after a b (inr (inl refl)) (inl refl) o w) (omega arith) 38 33 _ (omega arith)
+      (λ r. flags_tame goto at after (r ∷ b ∷ a ∷ []) w a b r (inr (inr (inl refl))) (inr (inl refl)) (inl refl) (omega arith) o 33 11 done (omega arith)
+      (nothing_left (r ∷ b ∷ a ∷ []) 11))))
+
+  combines_tame : (o : AluOp) (w : Width) (to from : Operand) → Reached to → Reached from → Few (combines at after o w to from)
+  unfolding combines
+  combines_tame o w to from is_to is_from =
+      fetches_tame goto at after [] w from 62 50 _ is_from (omega arith) (omega (arith, fetch_most from))
+      (λ b. changes_tame goto at after (b ∷ []) w (λ a. result at after o w a (Kept b)) (λ a r. flags_of at after o w a (Kept b) r) (omega arith)
+      (λ seen a grows in_a. result_within seen at after a b in_a (grows b (inl refl)) o w)
+      (λ a r most left rest cost tame. flags_tame goto at after (r ∷ a ∷ b ∷ []) w a b r (inr (inl refl)) (inr (inr (inl refl))) (inl refl) (omega arith) o most left rest cost tame)
+      nothing_left to 50 is_to (omega arith))
+
+  alu_tame : (o : AluOp) (w : Width) (to from : Operand) → Reached to → Reached from → Few (lifts_alu at after o w to from)
+  alu_tame op.Cmp w to from is_to is_from = compares_tame op.Cmp w to from is_to is_from
+  alu_tame o w to from is_to is_from = combines_tame o w to from is_to is_from
+
+  address_tame : (w : Width) (to from : Operand) → Reached to → IsInMemory from → Few (takes_address at after w to from)
+  unfolding takes_address
+  address_tame w to (operand.Mem m) is_to is_from =
+      puts_operand_tame goto at after w to _ 62 0 done (clean_within [] w _ (omega arith) (address_within [] m after is_from)) (omega arith) (omega arith) is_to (omega arith)
+      (nothing_left [] 0)
+  address_tame w to (operand.Reg r) is_to is_from = elim is_from [ ]
+  address_tame w to (operand.Imm n) is_to is_from = elim is_from [ ]
+
+  exchanges_tame : (w : Width) (to from : Operand) → Reached to → Reached from → Few (exchanges at after w to from)
+  unfolding exchanges
+  exchanges_tame w to from is_to is_from =
+      fetches_tame goto at after [] w to 62 50 _ is_to (omega arith) (omega (arith, fetch_most to))
+      (λ a. fetches_tame goto at after (a ∷ []) w from 50 38 _ is_from (omega arith) (omega (arith, fetch_most from))
+      (λ b. puts_kept_operand_tame goto at after (b ∷ a ∷ []) w from a 38 31 _ is_from (inr (inl refl)) (omega arith) (omega arith)
+      (puts_kept_operand_tame goto at after (b ∷ a ∷ []) w to b 31 24 done is_to (inl refl) (omega arith) (omega arith) (nothing_left (b ∷ a ∷ []) 24))))
+
+  adds_exchanged_tame : (w : Width) (to from : Operand) → Reached to → IsInRegister w from → Few (adds_exchanged at after w to from)
+  unfolding adds_exchanged
+  adds_exchanged_tame w to from is_to in_register =
+      let is_from = reached_register w from in_register in
+      fetches_tame goto at after [] w to 62 50 _ is_to (omega arith) (omega (arith, fetch_most to))
+      (λ a. fetches_tame goto at after (a ∷ []) w from 50 45 _ is_from (omega arith) (omega (arith, fetch_register w from in_register))
+      (λ b. keeps_tame goto (result at after op.Add w (Kept a) (Kept b)) (result_within (b ∷ a ∷ []) at after a b (inr (inl refl)) (inl refl) op.Add w) (omega arith) 45 40 _
+      (omega arith)
+      (λ r. flags_tame goto at after (r ∷ b ∷ a ∷ []) w a b r (inr (inr (inl refl))) (inr (inl refl)) (inl refl) (omega arith) op.Add 40 18 _ (omega arith)
+      (less_live goto (r ∷ b ∷ a ∷ []) (r ∷ a ∷ []) _ (but_second r b a)
+      (puts_kept_operand_tame goto at after (r ∷ a ∷ []) w from a 18 11 _ is_from (inr (inl refl)) (omega arith) (omega arith)
+      (puts_kept_operand_tame goto at after (r ∷ a ∷ []) w to r 11 4 done is_to (inl refl) (omega arith) (omega arith) (nothing_left (r ∷ a ∷ []) 4)))))))
+    where
+      but_second : (r b a t : ℕ) → Among (r ∷ a ∷ []) t → Among (r ∷ b ∷ a ∷ []) t
+      but_second r b a t (inl same) = inl same
+      but_second r b a t (inr among) = inr (inr among)
+
+  -- the stack
+
+  pushes_tame : (from : Operand) → Reached from → Few (pushes at after from)
+  unfolding pushes
+  pushes_tame from is =
+      fetches_tame goto at after [] width.Quad from 62 50 _ is (omega arith) (omega (arith, fetch_most from))
+      (λ v. keeps_tame goto (Operation ops.Sub (Register 4) (Number 8)) (below (v ∷ []) 4 (omega arith)) (omega arith) 50 47 _ (omega arith)
+      (λ address. stores_tame goto (address ∷ v ∷ []) at 8 address v 47 45 _ (inr (inr (inr refl))) (inl refl) (inr (inl refl)) (omega arith) (omega arith)
+      (sets_register_tame goto (Kept address) (kept_within (address ∷ v ∷ []) address (inl refl)) (omega arith) 4 45 44 done (omega arith) (omega arith)
+      (nothing_left (address ∷ v ∷ []) 44))))
+
+  pop_tame : (to : Operand) → Reached to → Few (pops at after (λ v. moves at after width.Quad to v done))
+  unfolding pops
+  pop_tame to is =
+      loads_tame goto (Register 4) (pointer_within [] 4 (omega arith)) (omega arith) at 8 62 59 _ (inr (inr (inr refl))) (omega arith) (omega arith)
+      (λ v. sets_register_tame goto (Operation ops.Add (Register 4) (Number 8)) (above (v ∷ []) 4 (omega arith)) (omega arith) 4 59 55 _ (omega arith) (omega arith)
+      (moves_tame goto at after (v ∷ []) width.Quad to v 55 43 done is (inl refl) (omega arith) (omega arith) (nothing_left (v ∷ []) 43)))
+
+  leave_tame : Few (leaves_frame at after)
+  unfolding leaves_frame
+  leave_tame =
+      loads_tame goto (Register 5) (pointer_within [] 5 (omega arith)) (omega arith) at 8 62 59 _ (inr (inr (inr refl))) (omega arith) (omega arith)
+      (λ v. sets_register_tame goto (Operation ops.Add (Register 5) (Number 8)) (above (v ∷ []) 5 (omega arith)) (omega arith) 4 59 55 _ (omega arith) (omega arith)
+      (sets_register_tame goto (Kept v) (kept_within (v ∷ []) v (inl refl)) (omega arith) 5 55 54 done (omega arith) (omega arith) (nothing_left (v ∷ []) 54)))
+
+  -- conditions
+
+  sets_condition_tame : (code : ℕ) (to : Operand) → Reached to → Few (keeps (condition_formula code) (λ v. moves at after width.Byte to v done))
+  sets_condition_tame code to is =
+      keeps_tame goto (condition_formula code) (condition_within [] code) (omega arith) 62 55 _ (omega arith)
+      (λ v. moves_tame goto at after (v ∷ []) width.Byte to v 55 43 done is (inl refl) (omega arith) (omega arith) (nothing_left (v ∷ []) 43))
+
+  chooses_tame : (code : ℕ) (w : Width) (to from : Operand) → Reached to → Reached from → Few (fetches at after w from (λ v. chooses at after code w to v))
+  unfolding chooses
+  chooses_tame code w to from is_to is_from =
+      fetches_tame goto at after [] w from 62 50 _ is_from (omega arith) (omega (arith, fetch_most from)) (λ v. chosen to is_to v)
+    where
+      chosen : (to : Operand) → Reached to → (v : ℕ) → TameLifting goto (v ∷ []) 50 (chooses at after code w to (Kept v))
+      chosen (operand.Reg r) is v =
+          let c = condition_within (v ∷ []) code in
+          let old = register_within (v ∷ []) w r is in
+          let chosen_within : Within (v ∷ []) 4 14 (Choice (condition_formula code) (Kept v) (register_formula w r)) =
+          record {
+            sound = (c.sound, inl refl, old.sound);
+            in_room = omega (arith, c.in_room, old.in_room, own_one (condition_formula code), own_one (register_formula w r));
+            in_price = omega (arith, c.in_price, old.in_price);
+          } in
+          puts_tame goto w r _ 50 29 done chosen_within (omega arith) (omega arith) is (omega arith) (nothing_left (v ∷ []) 29)
+      chosen (operand.Mem m) is v = nothing_left (v ∷ []) 50
+      chosen (operand.Imm n) is v = nothing_left (v ∷ []) 50
+
+  -- one operand that changes
+
+  -- the number 1
+  one_within : (live : List ℕ) → Within live 1 1 (Number 1)
+  one_within live = small_within live 1 (omega arith)
+
+  -- a value of the width, one more or less
+  by_one : (o : IrOp) → ((k : Known) → HasConstant o k) → op_cost o ≤ 1 → (w : Width) (seen : List ℕ) (a : ℕ) → Among seen a
+      → Within seen 3 5 (clean w (Operation o (Kept a) (Number 1)))
+  by_one o plain cheap w seen a in_a = clean_within seen w _ (omega arith) counted
+    where
+      counted : Within seen 3 3 (Operation o (Kept a) (Number 1))
+      counted = record { sound = (in_a, tt, ordinary plain); in_room = omega arith; in_price = omega (arith, cheap) }
+
+  increases_tame : (w : Width) (to : Operand) → Reached to
+      → Few (changes at after w to (λ a. clean w (Operation ops.Add a (Number 1))) (λ a r. sets_result w (sum_overflow w a (Number 1) r) r))
+  increases_tame w to is =
+      changes_tame goto at after [] w _ _ (omega arith) (λ seen a grows in_a. by_one ops.Add (λ k. tt) (omega arith) w seen a in_a)
+      (λ a r most left rest cost tame. sets_result_tame goto (r ∷ a ∷ []) w r _ (omega arith) (inl refl) (overflow a r) most left rest (omega (arith, cost)) tame)
+      nothing_left to 62 is (omega arith)
+    where
+      overflow : (a r : ℕ) → Within (r ∷ a ∷ []) 3 6 (sum_overflow w (Kept a) (Number 1) (Kept r))
+      overflow a r = sum_overflow_within (r ∷ a ∷ []) w a r (Number 1) (inr (inl refl)) (inl refl) (one_within (r ∷ a ∷ []))
+
+  decreases_tame : (w : Width) (to : Operand) → Reached to
+      → Few (changes at after w to (λ a. clean w (Operation ops.Sub a (Number 1))) (λ a r. sets_result w (difference_overflow w a (Number 1) r) r))
+  decreases_tame w to is =
+      changes_tame goto at after [] w _ _ (omega arith) (λ seen a grows in_a. by_one ops.Sub (λ k. tt) (omega arith) w seen a in_a)
+      (λ a r most left rest cost tame. sets_result_tame goto (r ∷ a ∷ []) w r _ (omega arith) (inl refl) (overflow a r) most left rest (omega (arith, cost)) tame)
+      nothing_left to 62 is (omega arith)
+    where
+      overflow : (a r : ℕ) → Within (r ∷ a ∷ []) 3 6 (difference_overflow w (Kept a) (Number 1) (Kept r))
+      overflow a r = difference_overflow_within (r ∷ a ∷ []) w a r (Number 1) (inr (inl refl)) (inl refl) (one_within (r ∷ a ∷ []))
+
+  turns_tame : (w : Width) (to : Operand) → Reached to → Few (changes at after w to (λ a. Operation ops.Xor a (Number (ones (bits w)))) (λ a r rest. rest))
+  turns_tame w to is =
+      changes_tame goto at after [] w _ _ (omega arith) turned (λ a r most left rest cost tame next. tame_more (omega (arith, cost)) (tame next)) nothing_left to 62 is (omega arith)
+    where
+      turned : (seen : List ℕ) (a : ℕ) → ((t : ℕ) → Among [] t → Among seen t) → Among seen a → Within seen 3 5 (Operation ops.Xor (Kept a) (Number (ones (bits w))))
+      turned seen a grows in_a = record { sound = (in_a, tt, ordinary (λ k. tt)); in_room = omega arith; in_price = omega (arith, number_most (ones (bits w))) }
+
+  negates_tame : (w : Width) (to : Operand) → Reached to
+      → Few (changes at after w to (λ a. clean w (Operation ops.Sub (Number 0) a)) (λ a r. sets_flags w (top w (Operation ops.And a r)) (borrow (Number 0) a) r))
+  negates_tame w to is =
+      changes_tame goto at after [] w _ _ (omega arith) (λ seen a grows in_a. clean_within seen w _ (omega arith) (negated seen a in_a))
+      (λ a r most left rest cost tame. sets_flags_tame goto (r ∷ a ∷ []) w r _ (omega arith) (inl refl) (top_within (r ∷ a ∷ []) w _ (omega arith) (both a r)) _ most left rest
+      (borrowed a r) cost tame)
+      nothing_left to 62 is (omega arith)
+    where
+      negated : (seen : List ℕ) (a : ℕ) → Among seen a → Within seen 3 3 (Operation ops.Sub (Number 0) (Kept a))
+      negated seen a in_a = record { sound = (tt, in_a, ordinary (λ k. tt)); in_room = omega arith; in_price = omega arith }
+
+      both : (a r : ℕ) → Within (r ∷ a ∷ []) 3 4 (Operation ops.And (Kept a) (Kept r))
+      both a r = record { sound = (inr (inl refl), inl refl, ordinary (λ k. tt)); in_room = omega arith; in_price = omega arith }
+
+      borrowed : (a r : ℕ) → Within (r ∷ a ∷ []) 3 7 (borrow (Number 0) (Kept a))
+      borrowed a r = record { sound = (tt, inr (inl refl), ordinary (λ k. tt)); in_room = omega arith; in_price = omega arith }
+
+  -- moves
+
+  copies_tame : (w : Width) (to from : Operand) → Reached to → Reached from → Few (fetches at after w from (λ v. moves at after w to v done))
+  copies_tame w to from is_to is_from =
+      fetches_tame goto at after [] w from 62 50 _ is_from (omega arith) (omega (arith, fetch_most from))
+      (λ v. moves_tame goto at after (v ∷ []) w to v 50 38 done is_to (inl refl) (omega arith) (omega arith) (nothing_left (v ∷ []) 38))
+
+  extends_tame : (w v : Width) (to from : Operand) → Reached to → Reached from → Few (fetches at after v from (λ a. puts_operand at after w to a done))
+  extends_tame w v to from is_to is_from =
+      fetches_tame goto at after [] v from 62 50 _ is_from (omega arith) (omega (arith, fetch_most from))
+      (λ a. puts_kept_operand_tame goto at after (a ∷ []) w to a 50 43 done is_to (inl refl) (omega arith) (omega arith) (nothing_left (a ∷ []) 43))
+
+  sign_extends_tame : (to from : Operand) → Reached to → Reached from → Few (fetches at after width.Long from (λ a. puts_operand at after width.Quad to (with_sign width.Long a) done))
+  sign_extends_tame to from is_to is_from =
+      fetches_tame goto at after [] width.Long from 62 50 _ is_from (omega arith) (omega (arith, fetch_most from))
+      (λ a. puts_operand_tame goto at after width.Quad to _ 50 0 done (with_sign_within (a ∷ []) width.Long (Kept a) (omega arith) (kept_in_three (a ∷ []) a (inl refl)))
+      (omega arith) (omega arith) is_to (omega arith) (nothing_left (a ∷ []) 0))
+
+  signed_tame : (w v : Width) (to from : Operand) → Reached to → Reached from → Few (fetches at after v from (λ a. puts_operand at after w to (clean w (with_sign v a)) done))
+  signed_tame w v to from is_to is_from =
+      fetches_tame goto at after [] v from 62 50 _ is_from (omega arith) (omega (arith, fetch_most from))
+      (λ a. puts_operand_tame goto at after w to _ 50 0 done
+      (clean_within (a ∷ []) w _ (omega arith) (with_sign_within (a ∷ []) v (Kept a) (omega arith) (kept_in_three (a ∷ []) a (inl refl))))
+      (omega arith) (omega arith) is_to (omega arith) (nothing_left (a ∷ []) 0))
+
+  widens_tame : (w : Width) → Few (puts w rax (clean w (with_sign (half w) (register_formula (half w) rax))) done)
+  widens_tame w =
+      puts_tame goto w rax _ 62 0 done (clean_within [] w _ (omega arith) (with_sign_within [] (half w) _ (omega arith) (register_within [] (half w) rax (omega arith))))
+      (omega arith) (omega arith) (omega arith) (omega arith) (nothing_left [] 0)
+
+  fills_tame : (w : Width) → Few (puts w (upper w) (clean w (Operation ops.Sar (with_sign w (register_formula w rax)) (Number 63))) done)
+  fills_tame w =
+      let old = with_sign_within [] w _ (omega arith) (register_within [] w rax (omega arith)) in
+      let shifted : Within [] 3 9 (Operation ops.Sar (with_sign w (register_formula w rax)) (Number 63)) =
+      record { sound = (old.sound, tt, ordinary (λ k. tt)); in_room = omega (arith, old.in_room, own_one (with_sign w (register_formula w rax))); in_price = omega (arith, old.in_price) } in
+      puts_tame goto w (upper w) _ 62 0 done (clean_within [] w _ (omega arith) shifted) (omega arith) (omega arith) (there w) (omega arith) (nothing_left [] 0)
+    where
+      there : (w : Width) → (upper w).number < 16
+      there width.Byte = omega arith
+      there w = omega arith
+
+  -- MFENCE
+
+  fences_tame : Few (fences at after)
+  fences_tame next = acting {left = 0} refl tt (λ known. tt) (omega arith) (omega arith) (ended tt tt)
+
+-- RET: the address that it pops is in the second temporary, and stays there
+return_tame : (at after temps : ℕ) → Tame (ends.Return (temp (temps + 1))) [] temps 62 (pops at after (λ v. done) temps)
+unfolding pops
+return_tame at after temps =
+    let end = ends.Return (temp (temps + 1)) in
+    let live = (temps + 1) ∷ [] in
+    loads_at end (Register 4) (pointer_within [] 4 (omega arith)) (omega arith) at 8 62 59 _ temps (inr (inr (inr refl))) (omega arith) (omega arith)
+    (sets_register_tame end (Operation ops.Add (Register 4) (Number 8)) (above live 4 (omega arith)) (omega arith) 4 59 55 done (omega arith) (omega arith)
+    (done_tame end live 55 (inl refl, tt) tt) (temps + 1 + 1))
+
+-- each instruction that is lifted
+lifts_tame : (at after next_address temps : ℕ) (i : Instr) → IsFormed i → is_built i ≡ true → Tame (end_from i next_address temps) [] temps 62 (lifts at after i temps)
+unfolding lifts pops
+lifts_tame at after next temps (instr.Alu o w to from locked) formed built = let is = reached_pair w to from formed.0 in alu_tame at after next o w to from is.0 is.1 temps
+lifts_tame at after next temps (instr.Test w to from) formed built = let is = reached_pair w to from formed in compares_tame at after next op.And w to from is.0 is.1 temps
+lifts_tame at after next temps (instr.Xchg w to from locked) formed built = exchanges_tame at after next w to from (reached_stored w to formed.0) (reached_register w from formed.1.0) temps
+lifts_tame at after next temps (instr.Mov w to from) formed built = let is = reached_pair w to from formed in copies_tame at after next w to from is.0 is.1 temps
+lifts_tame at after next temps (instr.Lea w to from) formed built = address_tame at after next w to from (reached_register w to formed.1.0) formed.1.1 temps
+lifts_tame at after next temps (instr.MovZx w v to from) formed built = extends_tame at after next w v to from (reached_register w to formed.1.1.0) (reached_stored v from formed.1.1.1) temps
+lifts_tame at after next temps (instr.MovSx w v to from) formed built = signed_tame at after next w v to from (reached_register w to formed.1.1.0) (reached_stored v from formed.1.1.1) temps
+lifts_tame at after next temps (instr.MovSxd to from) formed built =
+    sign_extends_tame at after next to from (reached_register width.Quad to formed.0) (reached_stored width.Long from formed.1) temps
+lifts_tame at after next temps (instr.Push from) formed built = pushes_tame at after next from (reached_pushed from formed) temps
+lifts_tame at after next temps (instr.Pop to) formed built = pop_tame at after next to (reached_stored width.Quad to formed) temps
+lifts_tame at after next temps instr.Leave formed built = leave_tame at after next temps
+lifts_tame at after next temps instr.Ret formed built = return_tame at after temps
+lifts_tame at after next temps (instr.SetCc c to) formed built = sets_condition_tame at after next c.code to (reached_stored width.Byte to formed.1) temps
+lifts_tame at after next temps (instr.CmovCc c w to from) formed built =
+    chooses_tame at after next c.code w to from (reached_register w to formed.1.1.0) (reached_stored w from formed.1.1.1) temps
+lifts_tame at after next temps (instr.Inc w to locked) formed built = increases_tame at after next w to (reached_stored w to formed.0) temps
+lifts_tame at after next temps (instr.Dec w to locked) formed built = decreases_tame at after next w to (reached_stored w to formed.0) temps
+lifts_tame at after next temps (instr.Not w to locked) formed built = turns_tame at after next w to (reached_stored w to formed.0) temps
+lifts_tame at after next temps (instr.Neg w to) formed built = negates_tame at after next w to (reached_stored w to formed) temps
+lifts_tame at after next temps (instr.Xadd w to from locked) formed built = adds_exchanged_tame at after next w to from (reached_stored w to formed.0) formed.1.0 temps
+lifts_tame at after next temps (instr.Widen w) formed built = widens_tame at after next w temps
+lifts_tame at after next temps (instr.SignFill w) formed built = fills_tame at after next w temps
+lifts_tame at after next temps instr.Nop formed built = ended tt tt
+lifts_tame at after next temps instr.Pause formed built = ended tt tt
+lifts_tame at after next temps instr.Endbr formed built = ended tt tt
+lifts_tame at after next temps instr.Mfence formed built = fences_tame at after next temps
+lifts_tame at after next temps instr.Ud2 formed built = ended tt (λ same. absurd cc)
+lifts_tame at after next temps i formed built = absurd cc
+
+-- ---- what follows for a block
 
 pub lifts_few : (at after temps : ℕ) (instr : Instr) → IsFormed instr → is_built instr ≡ true → cost_of fenced_cost (lifts at after instr temps) ≤ 62
-lifts_few at after temps instr formed built = ?
+lifts_few at after temps instr formed built = tame_cost (lifts_tame at after 0 temps instr formed built)
 
 pub lifts_own : (at after temps : ℕ) (instr : Instr) → IsFormed instr → is_built instr ≡ true → SetsFrom temps (lifts at after instr temps)
-lifts_own at after temps instr formed built = ?
+lifts_own at after temps instr formed built t set = let within = tame_sets (lifts_tame at after 0 temps instr formed built) t set in (within.0, omega (arith, within.1))
 
 pub lifts_selectable : (at after next_address temps : ℕ) (instr : Instr) → IsFormed instr → is_built instr ≡ true → temps ≤ 2 ^ 24
     → IsSelectable (lifts at after instr temps) (end_from instr next_address temps)
-lifts_selectable at after next_address temps instr formed built few = ?
+lifts_selectable at after next_address temps instr formed built few =
+    let tame = lifts_tame at after next_address temps instr formed built in
+    record {
+      well = tame_well tame (λ t. Unset) (λ t among. elim among [ ]);
+      once = tame_once tame;
+      small = λ t set. omega (arith, (tame_sets tame t set).1, few);
+      few = tame_few tame;
+    }
