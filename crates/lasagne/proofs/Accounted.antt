@@ -39,7 +39,7 @@ use Rattle.a64_table.proofs.BarrierLemmas.{IsBarred, a64_barred}
 use Rattle.line_read.specs.Line.{IsLine, IsTranslated, placed_in}
 use Rattle.line_read.proofs.CallerLemmas.{one_line}
 use Rattle.straight_line.specs.Guarded.{Guarded}
-use Rattle.straight_line.proofs.PlainRows.{IsPlain}
+use Rattle.straight_line.proofs.Rows.{IsPlain}
 use Rattle.straight_line.proofs.LineMakes.{line_makes}
 use Rattle.x64_table.proofs.CallerLemmas.{steps_open}
 use Rattle.elf_read.specs.ElfFile.{segments_of, threads_of}

@@ -37,7 +37,7 @@ bank_fits k stack low placed n = by_tests (n == 4) (n == 7)
     by_tests false false = omega arith
 
 pub start_alike : (k : ℕ) (stack : Stack) (from to : ℕ) → k < 2 ^ 64 → IsStack stack → Starts from to (x64_start k stack from) (a64_start k stack to)
-start_alike k stack from to low placed = record { source_at = refl; target_at = refl; same = λ n lt. refl; fit = bank_fits k stack low placed }
+start_alike k stack from to low placed = record { source_at = refl; target_at = refl; same = λ n lt. refl; cf = refl; zf = refl; sf = refl; of = refl; fit = bank_fits k stack low placed }
 
 -- the words of a code segment carry the line that stands where a thread of the input begins, from where that of the image begins on
 pub record Carried (parts : List Part) (address : ℕ) (words : List ℕ) (from to : ℕ) : Type 0 where

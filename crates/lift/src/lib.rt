@@ -2,3 +2,9 @@
 //! Others rest on `lift_line`, by its clauses `first`, `end`, `meaning`, `few`, `selectable` and `unlocked`.
 //! Source: basic blocks as in Aho, Lam, Sethi and Ullman, Compilers, section 8.4.
 #![tactic(auto)]
+
+mod line;
+#[cfg(test)]
+mod tests;
+
+pub use line::lift_line;
