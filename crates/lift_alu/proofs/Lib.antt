@@ -1,3 +1,4 @@
+mod Words
 mod OperandValues
 mod FlagValues
 mod Meaning
