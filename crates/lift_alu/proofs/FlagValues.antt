@@ -1,14 +1,15 @@
 -- The values of the formulas of results, flags and conditions.
 use Rattle.std.proofs.Common.{◌≡◌, ◌≢◌, ℕ, ◌+◌, ◌-◌, ◌/◌, ◌%◌, ◌^◌, ◌<◌, Bool, true, false, arith, refl, ap, sym, ◌∙◌, lit<}
-use Rattle.std.specs.Prelude.{bit_and, bit_or, bit_xor, nat_lt, nat_le, ◌==◌, ◌&&◌}
-use Rattle.std.specs.Int.Bits.{and_lt}
+use Rattle.std.specs.Prelude.{bit_and, bit_or, bit_xor, nat_lt, nat_le, ◌==◌, not, ◌&&◌, ◌||◌, if◌then◌else◌}
+use Rattle.std.specs.Int.Bits.{and_lt, xor_zero_l}
+use Rattle.std.proofs.lemmas.Bool.Decides.{nat_tests}
 use Rattle.std.proofs.lemmas.Nat.{pow_pos, mod_below, or_lt, xor_lt}
 use Rattle.word_arith.specs.Bits.{bit, differ, top_bit}
 use Rattle.word_arith.specs.Masks.{ones}
 use Rattle.alu_width.specs.declared.flags.Flags.{Flags}
-use Rattle.alu_width.specs.Conditions.{condition}
+use Rattle.alu_width.specs.Conditions.{condition, even_condition}
 use Rattle.alu_width.specs.Sums.{outcome, sum_outcome, difference_outcome}
-use Rattle.word_arith.proofs.CallerLemmas.{bit_below, carry_below, sum_cut, difference_cut_borrow, top_bit_is, top_and_xor}
+use Rattle.word_arith.proofs.CallerLemmas.{bit_below, bit-not, bit-or, bit-differ, not_by_xor, carry_below, sum_cut, difference_cut_borrow, top_bit_is, top_and_xor}
 use Rattle.word_arith.proofs.OverflowLemmas.{sum_overflow as sum_overflows, difference_overflow as difference_overflows}
 use Rattle.alu_width.proofs.CallerLemmas.{add_by_words, sub_by_words}
 use Rattle.x64_syntax.specs.Formed.{IsCondition}
@@ -23,10 +24,10 @@ use Rattle.limm_ir.specs.Steps.{IrState}
 use Rattle.limm_ir.specs.declared.step.IrOp.TheVariants as ops
 use Rattle.lift_alu.specs.Formulas.{Formula, Number, Flag, Operation, value}
 use Rattle.lift_alu.specs.Operands.{clean}
-use Rattle.lift_alu.specs.Flags.{top, sum_overflow, difference_overflow, sum_carry, sum_carry_in, borrow, borrow_in, condition_formula}
+use Rattle.lift_alu.specs.Flags.{top, sum_overflow, difference_overflow, sum_carry, sum_carry_in, borrow, borrow_in, CF, ZF, SF, OF, even_formula, condition_formula}
 use Rattle.lift_alu.specs.Lifted.{result}
 use Rattle.lift_alu.proofs.OperandValues.{value_clean}
-use Rattle.lift_alu.proofs.Words.{is_width, positive, sum_in_steps, difference_in_steps, carry_of_sum, borrow_of_difference, bit-and-or}
+use Rattle.lift_alu.proofs.Words.{is_width, zero_fits, one_fits, positive, sum_in_steps, difference_in_steps, carry_of_sum, borrow_of_difference, bit-and-or}
 
 -- the flags of the steps are those of a thread
 pub record HasFlags (f : Flags) (i : IrState) : Type 0 where
@@ -270,23 +271,54 @@ pub record StepsOutcome (w : Width) (f : Flags) (i : IrState) (a r overflow : Fo
 
 pub value_inc : (w : Width) (f : Flags) (i : IrState) (a : Formula) → value i a < 2 ^ bits w
     → value i (clean w (Operation ops.Add a (Number 1))) ≡ (inc_outcome (bits w) (value i a) f).value
-value_inc w f i a fit = ?
+unfolding inc_outcome
+value_inc w f i a fit = value_added w i a (Number 1) fit (one_fits (bits w) (is_width w))
 
 pub flags_inc : (w : Width) (f : Flags) (i : IrState) (a r : Formula) → value i a < 2 ^ bits w → value i r ≡ (inc_outcome (bits w) (value i a) f).value
     → StepsOutcome w f i a r (sum_overflow w a (Number 1) r) (inc_outcome (bits w) (value i a) f).flags
-flags_inc w f i a r fit is = ?
+unfolding inc_outcome alu_outcome sum_outcome outcome
+flags_inc w f i a r fit is =
+    let one : 1 < 2 ^ bits w = one_fits (bits w) (is_width w) in
+    record {
+      cf = refl;
+      zf = value_zero 0 0 op.Add w f i a (Number 1) r is;
+      sf = value_sign 0 0 op.Add w f i a (Number 1) r fit one is;
+      of = value_sum_overflow w i a (Number 1) r 0 fit one (lit< tt) is;
+    }
 
 pub value_dec : (w : Width) (f : Flags) (i : IrState) (a : Formula) → value i a < 2 ^ bits w
     → value i (clean w (Operation ops.Sub a (Number 1))) ≡ (dec_outcome (bits w) (value i a) f).value
-value_dec w f i a fit = ?
+unfolding dec_outcome
+value_dec w f i a fit = value_taken w i a (Number 1) fit (one_fits (bits w) (is_width w))
 
 pub flags_dec : (w : Width) (f : Flags) (i : IrState) (a r : Formula) → value i a < 2 ^ bits w → value i r ≡ (dec_outcome (bits w) (value i a) f).value
     → StepsOutcome w f i a r (difference_overflow w a (Number 1) r) (dec_outcome (bits w) (value i a) f).flags
-flags_dec w f i a r fit is = ?
+unfolding dec_outcome alu_outcome difference_outcome outcome
+flags_dec w f i a r fit is =
+    let one : 1 < 2 ^ bits w = one_fits (bits w) (is_width w) in
+    record {
+      cf = refl;
+      zf = value_zero 0 0 op.Sub w f i a (Number 1) r is;
+      sf = value_sign 0 0 op.Sub w f i a (Number 1) r fit one is;
+      of = value_difference_overflow w i a (Number 1) r 0 fit one (lit< tt) is;
+    }
+
+-- flags none of which is set
+no_flags : Flags
+no_flags = record { cf = false; zf = false; sf = false; of = false }
+
+-- the overflow of a difference from 0
+value_neg_overflow : (w : Width) (i : IrState) (a r : Formula)
+    → value i (top w (Operation ops.And a r)) ≡ value i (difference_overflow w (Number 0) a r)
+value_neg_overflow w i a r =
+    value_top w i (Operation ops.And a r)
+    ∙ ap (λ m. bit_and m (value i r) / 2 ^ (bits w - 1)) (sym (xor_zero_l (value i a)))
+    ∙ ap (λ m. bit_and (bit_xor 0 (value i a)) m / 2 ^ (bits w - 1)) (sym (xor_zero_l (value i r)))
+    ∙ sym (value_top w i (Operation ops.And (Operation ops.Xor (Number 0) a) (Operation ops.Xor (Number 0) r)))
 
 -- NEG: the result and its four flags
 pub value_neg : (w : Width) (i : IrState) (a : Formula) → value i a < 2 ^ bits w → value i (clean w (Operation ops.Sub (Number 0) a)) ≡ (neg_outcome (bits w) (value i a)).value
-value_neg w i a fit = ?
+value_neg w i a fit = value_taken w i (Number 0) a (zero_fits (bits w) (is_width w)) fit
 
 pub record NegOutcome (w : Width) (i : IrState) (a r : Formula) (after : Flags) : Type 0 where
   pub cf : value i (borrow (Number 0) a) ≡ bit after.cf
@@ -296,12 +328,63 @@ pub record NegOutcome (w : Width) (i : IrState) (a r : Formula) (after : Flags) 
 
 pub flags_neg : (w : Width) (i : IrState) (a r : Formula) → value i a < 2 ^ bits w → value i r ≡ (neg_outcome (bits w) (value i a)).value
     → NegOutcome w i a r (neg_outcome (bits w) (value i a)).flags
-flags_neg w i a r fit is = ?
+unfolding alu_outcome
+flags_neg w i a r fit is =
+    let none : 0 < 2 ^ bits w = zero_fits (bits w) (is_width w) in
+    record {
+      cf = value_borrow w i (Number 0) a;
+      zf = value_zero 0 0 op.Sub w no_flags i (Number 0) a r is;
+      sf = value_sign 0 0 op.Sub w no_flags i (Number 0) a r none fit is;
+      of = value_neg_overflow w i a r ∙ value_difference_overflow w i (Number 0) a r 0 none fit (lit< tt) is;
+    }
 
 -- NOT turns each bit of the width round
 pub value_not : (w : Width) (i : IrState) (a : Formula) → value i a < 2 ^ bits w → value i (Operation ops.Xor a (Number (ones (bits w)))) ≡ not_value (bits w) (value i a)
-value_not w i a fit = ?
+value_not w i a fit = not_by_xor (bits w) (value i a) fit
 
--- conditions
+-- ---- conditions
+
+-- the value of one of two formulas
+value_either : (test : Bool) (i : IrState) (a b : Formula) (p q : Bool) → value i a ≡ bit p → value i b ≡ bit q
+    → value i (if test then a else b) ≡ bit (if test then p else q)
+value_either true i a b p q first second = first
+value_either false i a b p q first second = second
+
+-- SF differs from OF
+value_less : (f : Flags) (i : IrState) → HasFlags f i → value i (Operation ops.Xor (Flag SF) (Flag OF)) ≡ bit (differ f.sf f.of)
+value_less f i flags = ap (λ m. bit_xor m (i.flags 3)) flags.sf ∙ ap (λ m. bit_xor (bit f.sf) m) flags.of ∙ sym (bit-differ f.sf f.of)
+
+-- the condition of an even code
+value_even : (code : ℕ) (f : Flags) (i : IrState) → HasFlags f i → value i (even_formula code) ≡ bit (even_condition code f)
+value_even code f i flags =
+    let less = value_less f i flags in
+    let below : value i (Operation ops.Or (Flag CF) (Flag ZF)) ≡ bit (f.cf || f.zf) =
+    ap (λ m. bit_or m (i.flags 1)) flags.cf ∙ ap (λ m. bit_or (bit f.cf) m) flags.zf ∙ sym (bit-or f.cf f.zf) in
+    let at_most : value i (Operation ops.Or (Flag ZF) (Operation ops.Xor (Flag SF) (Flag OF))) ≡ bit (f.zf || differ f.sf f.of) =
+    ap (λ m. bit_or m (bit_xor (i.flags 2) (i.flags 3))) flags.zf ∙ ap (λ m. bit_or (bit f.zf) m) less ∙ sym (bit-or f.zf (differ f.sf f.of)) in
+    value_either (code == 0) i _ _ _ _ flags.of
+    (value_either (code == 2) i _ _ _ _ flags.cf
+    (value_either (code == 4) i _ _ _ _ flags.zf
+    (value_either (code == 6) i _ _ _ _ below
+    (value_either (code == 8) i _ _ _ _ flags.sf
+    (value_either (code == 12) i _ _ _ _ less at_most)))))
+
+-- the condition of a code, by whether it is odd
+value_by_parity : (odd : Bool) (code rest : ℕ) (f : Flags) (i : IrState) → HasFlags f i → rest ≡ bit odd
+    → value i (if odd then Operation ops.Xor (even_formula (code - 1)) (Number 1) else even_formula code) ≡ bit (differ odd (even_condition (code - rest) f))
+value_by_parity true code rest f i flags is =
+    ap (λ m. bit_xor m 1) (value_even (code - 1) f i flags)
+    ∙ sym (bit-not (even_condition (code - 1) f))
+    ∙ ap (λ m. bit (not (even_condition (code - m) f))) (sym is)
+value_by_parity false code rest f i flags is =
+    let same : code - 0 ≡ code = omega arith in
+    value_even code f i flags ∙ ap (λ m. bit (even_condition m f)) (sym same) ∙ ap (λ m. bit (even_condition (code - m) f)) (sym is)
+
+-- the parity of a number
+parity : (n : ℕ) → n % 2 ≡ bit (n % 2 == 1)
+parity n = grind (arith, nat_tests)
+
+-- a condition
 pub value_condition : (c : Cond) (f : Flags) (i : IrState) → IsCondition c → HasFlags f i → value i (condition_formula c.code) ≡ bit (condition c.code f)
-value_condition c f i is flags = ?
+unfolding condition_formula condition
+value_condition c f i is flags = value_by_parity (c.code % 2 == 1) c.code (c.code % 2) f i flags (parity c.code)
