@@ -1,5 +1,6 @@
 mod Words
 mod OperandValues
 mod FlagValues
+mod Building
 mod Meaning
 mod Selectable

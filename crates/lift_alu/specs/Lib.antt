@@ -4,3 +4,4 @@ pub mod Flags
 pub mod Lifted
 pub mod Built
 pub mod Meant
+pub mod SoFar

@@ -2,3 +2,11 @@
 //! Others rest on `lift_instr`, by its clauses `meaning`, `few`, `selectable` and `own`, and on `is_built`, which says what is lifted so far.
 //! Source: Intel SDM, volume 2, the pages of the instructions; flags by comparisons of words as in Hacker's Delight, chapter 2.
 #![tactic(auto)]
+
+mod builder;
+mod built;
+mod formula;
+mod small_steps;
+
+pub use built::is_built;
+pub use small_steps::SmallSteps;
