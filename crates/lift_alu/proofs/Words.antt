@@ -1,10 +1,12 @@
 -- Widths as numbers of bits, and the arithmetic of their words that formulas compute.
-use Rattle.std.proofs.Common.{◌≡◌, ℕ, ◌+◌, ◌-◌, ◌%◌, ◌^◌, ◌<◌, ◌≤◌, Bool, true, false, arith, refl, ap, sym, ◌∙◌, inl, inr, lit<}
-use Rattle.std.specs.Prelude.{nat_le, nat_lt, ◌==◌, ◌&&◌, ◌||◌, bit_and, bit_or}
+use Rattle.std.proofs.Common.{◌≡◌, ℕ, ◌+◌, ◌-◌, ◌%◌, ◌^◌, ◌<◌, ◌≤◌, Bool, true, false, arith, refl, ap, sym, ◌∙◌, inl, inr, of_z, w64}
+use Rattle.std.specs.Prelude.{suc, ℤ, pos, negsuc, ◌+ℤ◌, FitsSigned, nat_le, nat_lt, ◌==◌, ◌&&◌, ◌||◌, bit_and, bit_or}
 use Rattle.std.proofs.lemmas.Bool.Decides.{nat_tests}
+use Rattle.std.proofs.lemmas.Int.{ints}
 use Rattle.word_arith.specs.Bits.{bit}
+use Rattle.word_arith.specs.Signed.{low_bits}
 use Rattle.word_arith.specs.Width.{IsWidth}
-use Rattle.word_arith.proofs.CallerLemmas.{bit-and, bit-or}
+use Rattle.word_arith.proofs.CallerLemmas.{bit-and, bit-or, low_bits_is, low_bits_pos}
 use Rattle.x64_syntax.specs.Operands.{bits}
 use Rattle.x64_syntax.specs.declared.operand.Width.{Width}
 use Rattle.x64_syntax.specs.declared.operand.Width.TheVariants as width
@@ -55,3 +57,8 @@ borrow_of_difference a b false = grind (arith, nat_tests)
 -- two tests of which one stands behind a flag, as words
 pub bit-and-or : (a b c : Bool) → bit (a && b || c) ≡ bit_or (bit_and (bit a) (bit b)) (bit c)
 bit-and-or a b c = bit-or (a && b) c ∙ ap (λ m. bit_or m (bit c)) (bit-and a b)
+
+-- a sum with a signed offset that wraps
+pub offset_sum : (n : ℕ) (offset : ℤ) → FitsSigned w64 offset → (n + of_z w64 offset) % 2 ^ 64 ≡ low_bits 64 (pos n +ℤ offset)
+offset_sum n (pos m) fits = sym (low_bits_pos 64 (n + m))
+offset_sum n (negsuc m) fits = sym (low_bits_is 64 (pos n +ℤ negsuc m) 1 (n + (2 ^ 64 - suc m)) (omega (arith, ints, fits)))

@@ -5,7 +5,9 @@
 
 mod builder;
 mod built;
+mod flags;
 mod formula;
+mod operands;
 mod small_steps;
 
 pub use built::is_built;
