@@ -5,3 +5,4 @@ pub mod Lifted
 pub mod Built
 pub mod Meant
 pub mod SoFar
+pub mod There

@@ -3,6 +3,7 @@
 //! Source: Intel SDM, volume 2, the pages of the instructions; flags by comparisons of words as in Hacker's Delight, chapter 2.
 #![tactic(auto)]
 
+mod access;
 mod builder;
 mod built;
 mod flags;
