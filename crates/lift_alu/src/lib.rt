@@ -6,6 +6,7 @@
 mod access;
 mod builder;
 mod built;
+mod change;
 mod flags;
 mod formula;
 mod operands;
