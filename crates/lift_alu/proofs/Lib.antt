@@ -4,3 +4,4 @@ mod FlagValues
 mod Building
 mod Meaning
 mod Selectable
+mod Lifting

@@ -9,8 +9,13 @@ mod built;
 mod change;
 mod flags;
 mod formula;
+mod lift;
+mod moves;
 mod operands;
 mod small_steps;
+mod stack;
+mod unary;
 
 pub use built::is_built;
+pub use lift::lift_instr;
 pub use small_steps::SmallSteps;
