@@ -13,6 +13,7 @@ mod LiftedMoves
 mod LiftedStack
 mod LiftedArithmetic
 mod LiftedSteps
+mod Building
 mod Meaning
 mod Unlocked
 mod Tame
@@ -21,3 +22,4 @@ mod Bounds
 mod Liftings
 mod OperandSteps
 mod Selectable
+mod Lifting

@@ -4,3 +4,5 @@ pub mod Flags
 pub mod Lifted
 pub mod Built
 pub mod Meant
+pub mod SoFar
+pub mod There

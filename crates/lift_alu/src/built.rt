@@ -3,7 +3,8 @@ ghost use Rattle.lift_alu.specs.Built.{is_built, ends_line};
 
 use x64_syntax::Instr;
 
-/// Whether an instruction is lifted so far.
+/// Whether an instruction is lifted so far: none that is locked, multiplies, divides or shifts, and
+/// none that leads elsewhere but RET and UD2.
 pub fn is_built(instr: &Instr) -> bool
     ensures { result ≡ is_built instr.now }
 {

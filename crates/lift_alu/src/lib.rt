@@ -3,6 +3,19 @@
 //! Source: Intel SDM, volume 2, the pages of the instructions; flags by comparisons of words as in Hacker's Delight, chapter 2.
 #![tactic(auto)]
 
+mod access;
+mod builder;
 mod built;
+mod change;
+mod flags;
+mod formula;
+mod lift;
+mod moves;
+mod operands;
+mod small_steps;
+mod stack;
+mod unary;
 
 pub use built::{ends_line, is_built};
+pub use lift::lift_instr;
+pub use small_steps::SmallSteps;

@@ -69,8 +69,9 @@ pub enum RmwOp {
 /// A step of a block. Results stand first, then addresses, then values; the last two fields of an
 /// access are its size in bytes and the address of its x86 instruction.
 ///
-/// Registers are those of x86, 0 to 15; flags are 0 (CF), 1 (ZF), 2 (SF) and 3 (OF).
-#[derive(Clone, Copy, Debug, PartialEq, Eq)]
+/// Registers are those of x86, 0 to 15; flags are 0 (CF), 1 (ZF), 2 (SF) and 3 (OF). The default stands
+/// in places of an inline list that are not used.
+#[derive(Clone, Copy, Debug, Default, PartialEq, Eq)]
 pub enum IrStep {
     /// A temporary gets a number.
     Const(Temp, u64),
@@ -97,6 +98,7 @@ pub enum IrStep {
     Cas(Temp, Temp, Temp, Temp, u8, u64),
     Fence(IrFence),
     /// Register 0 gets a value from outside.
+    #[default]
     Input,
     /// The value of register 7 goes out.
     Output,

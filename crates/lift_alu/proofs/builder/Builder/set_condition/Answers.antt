@@ -1,0 +1,8 @@
+use Rattle.std.proofs.Common.{◌∙◌}
+use Rattle.lift_alu.specs.Formulas.{done}
+use Rattle.lift_alu.specs.Lifted.{lifts}
+use Rattle.lift_alu.proofs.builder.Builder.set_condition.Goals as goal
+
+pub returns : goal.returns
+unfolding lifts
+returns c = c.in_ok-value.ensures _ ∙ c.in_ok-move_to.ensures done

@@ -1,0 +1,97 @@
+ghost use Rattle.std.specs.Prelude.{◌≡◌, ◌≤◌, ◌^◌, true, ◌++◌, IfOk, OnOk};
+ghost use Rattle.x64_syntax.specs.Formed.{IsFormed};
+ghost use Rattle.limm_ir.specs.Conditions.{IsSelectable};
+ghost use Rattle.limm_ir.specs.Costs.{cost_of, fenced_cost};
+ghost use Rattle.lift_alu.specs.Built.{is_built};
+ghost use Rattle.lift_alu.specs.Formulas.{done};
+ghost use Rattle.lift_alu.specs.Lifted.{lifts};
+ghost use Rattle.lift_alu.specs.Meant.{after, end_of, LiftsInstr, SetsFrom};
+ghost use Rattle.lift_alu.specs.SoFar.{so_far};
+
+use crate::access::Site;
+use crate::builder::Builder;
+use crate::small_steps::SmallSteps;
+use ev_graph::NoMemory;
+use limm_ir::{IrFence, IrStep};
+use std::alloc::Global;
+use x64_syntax::{AluOp, Instr, Placed};
+
+/// The steps of one instruction, which do what it does. Their temporaries begin at `temps`.
+///
+/// Where it is RET, the second of these has the return address.
+pub fn lift_instr(alloc: Global, placed: &Placed, temps: u32) -> Result<SmallSteps, NoMemory>
+    requires formed { IsFormed placed.now.instr }
+    requires built { is_built placed.now.instr ≡ true }
+    requires few { temps ≤ 2 ^ 24 }
+    ensures meaning { IfOk result (λ xs. LiftsInstr 62 placed.now temps xs) }
+    ensures few { IfOk result (λ xs. cost_of fenced_cost xs ≤ 62) }
+    ensures selectable { IfOk result (λ xs. IsSelectable xs (end_of placed.now temps)) }
+    ensures own { IfOk result (λ xs. SetsFrom temps xs) }
+{
+    let lifted = lift_each(alloc, placed, temps)?;
+    Ok(lifted)
+}
+
+/// The steps of one instruction.
+fn lift_each(alloc: Global, placed: &Placed, temps: u32) -> Result<SmallSteps, NoMemory>
+    ensures { IfOk result (λ xs. xs ≡ lifts placed.now.address (after placed.now) placed.now.instr temps) }
+{
+    let site = Site {
+        at: placed.address,
+        after: placed.address.wrapping_add(u64::from(placed.length)),
+    };
+    let mut builder = Builder::new(alloc, temps);
+    builder.lift(site, &placed.instr)?;
+    let Builder { steps, next: _ } = builder;
+    Ok(steps)
+}
+
+impl Builder {
+    /// Builds the steps of an instruction.
+    #[tactic(auto, unfolding(crate::specs::Lifted::lifts))]
+    fn lift(&mut self, site: Site, instr: &Instr) -> Result<(), NoMemory>
+        ensures { OnOk result (so_far self.old (lifts site.at site.after instr.now) ≡ so_far self.new done) }
+    {
+        match instr {
+            Instr::Alu(op, width, to, from, _) => self.lift_alu(site, *op, *width, to, from),
+            Instr::Test(width, to, from) => self.compare(site, AluOp::And, *width, to, from),
+            Instr::Xchg(width, to, from, _) => self.exchange(site, *width, to, from),
+            Instr::Mov(width, to, from) => self.copy(site, *width, to, from),
+            Instr::Lea(width, to, from) => self.take_address(site, *width, to, from),
+            Instr::MovZx(width, narrow, to, from) => self.widen_by_zeros(site, *width, *narrow, to, from),
+            Instr::MovSx(width, narrow, to, from) => self.widen_by_sign(site, *width, *narrow, to, from),
+            Instr::MovSxd(to, from) => self.widen_long(site, to, from),
+            Instr::Push(from) => self.push_value(site, from),
+            Instr::Pop(to) => self.pop(site, to),
+            Instr::Leave => self.leave_frame(site),
+            Instr::Ret => self.pop_return(site),
+            Instr::SetCc(condition, to) => self.set_condition(site, *condition, to),
+            Instr::CmovCc(condition, width, to, from) => self.copy_if(site, *condition, *width, to, from),
+            Instr::Inc(width, to, _) => self.increment(site, *width, to),
+            Instr::Dec(width, to, _) => self.decrement(site, *width, to),
+            Instr::Not(width, to, _) => self.invert(site, *width, to),
+            Instr::Neg(width, to) => self.negate(site, *width, to),
+            Instr::Xadd(width, to, from, _) => self.add_exchanged(site, *width, to, from),
+            Instr::Widen(width) => self.widen_accumulator(site, *width),
+            Instr::SignFill(width) => self.fill_with_sign(site, *width),
+            Instr::Mfence => self.push(IrStep::Fence(IrFence::Fsc)),
+            Instr::Call(_)
+            | Instr::Jmp(_)
+            | Instr::CallInd(_)
+            | Instr::JmpInd(_)
+            | Instr::Jcc(_, _)
+            | Instr::Mul(_, _)
+            | Instr::ImulOne(_, _)
+            | Instr::Div(_, _)
+            | Instr::Idiv(_, _)
+            | Instr::ImulTwo(_, _, _)
+            | Instr::ImulThree(_, _, _, _)
+            | Instr::Shift(_, _, _, _)
+            | Instr::Cmpxchg(_, _, _, _)
+            | Instr::Nop
+            | Instr::Pause
+            | Instr::Endbr
+            | Instr::Ud2 => Ok(()),
+        }
+    }
+}
