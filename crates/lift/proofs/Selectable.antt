@@ -1,6 +1,6 @@
 -- Steps of instructions one behind the other, each with temporaries of its own, may be selected where those of each may be.
 use Rattle.std.proofs.Common.{◌≡◌, ◌≢◌, ℕ, zero, suc, ◌+◌, ◌*◌, ◌^◌, ◌<◌, ◌≤◌, ◌==◌, Bool, true, false, List, [], ◌∷◌, ◌++◌, length, eqb, refl, sym, ap, ◌∙◌, subst, inl, inr, arith, append_assoc}
-use Rattle.std.specs.Prelude.{◌⊎◌, if◌then◌else◌, slice_index_or, Option, Some, None, Contains}
+use Rattle.std.specs.Prelude.{◌⊎◌, if◌then◌else◌, slice_index_or, slice_get, Option, Some, None, Contains}
 use Rattle.std.specs.List.{AllByRecursion, IsDistinct}
 use Rattle.std.proofs.lemmas.Bool.Decides.{nat_tests}
 use Rattle.std.proofs.lemmas.List.{append-nil}
@@ -353,3 +353,19 @@ steps_snoc [] q temps xs ys none one =
 steps_snoc (p ∷ ps) q temps xs ys (here, later, same, first, rest) one =
     let base : temps + 256 * length (p ∷ ps) ≡ temps + 256 + 256 * length ps = omega arith in
     (here, later ++ ys, ap (λ l. l ++ ys) same ∙ append_assoc here later ys, first, steps_snoc ps q (temps + 256) later ys rest (subst (λ b. AreStepsOf q b ys) base one))
+
+-- the block ends as its last instruction
+pub ends_as_last : (ps : List Placed) (temps k : ℕ) (q : Placed) → slice_get ps k ≡ Some q → suc k ≡ length ps → end_from temps ps ≡ end_of q (temps + 256 * k)
+ends_as_last [] temps k q there long = absurd (omega (arith, long))
+ends_as_last (p ∷ []) temps k q there long =
+    let none : k ≡ 0 = omega (arith, long) in
+    let same : p ≡ q = some_is (subst (λ j. slice_get (p ∷ []) j ≡ Some q) none there) in
+    let base : temps ≡ temps + 256 * k = omega (arith, none) in
+    ap (λ r. end_of r temps) same ∙ ap (end_of q) base
+  where
+    some_is : {a b : Placed} → Some a ≡ Some b → a ≡ b
+    some_is e = cc
+ends_as_last (p ∷ r ∷ ps) temps zero q there long = absurd (omega (arith, long))
+ends_as_last (p ∷ r ∷ ps) temps (suc k) q there long =
+    let base : temps + 256 + 256 * k ≡ temps + 256 * suc k = omega arith in
+    ends_as_last (r ∷ ps) (temps + 256) k q there (omega (arith, long)) ∙ ap (end_of q) base

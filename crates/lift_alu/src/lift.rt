@@ -1,6 +1,7 @@
 ghost use Rattle.std.specs.Prelude.{◌≡◌, ◌≤◌, ◌^◌, true, ◌++◌, IfOk, OnOk};
+ghost use Rattle.std.specs.List.{AllByRecursion};
 ghost use Rattle.x64_syntax.specs.Formed.{IsFormed};
-ghost use Rattle.limm_ir.specs.Conditions.{IsSelectable};
+ghost use Rattle.limm_ir.specs.Conditions.{IsSelectable, IsUnlocked};
 ghost use Rattle.limm_ir.specs.Costs.{cost_of, fenced_cost};
 ghost use Rattle.lift_alu.specs.Built.{is_built};
 ghost use Rattle.lift_alu.specs.Formulas.{done};
@@ -27,13 +28,14 @@ pub fn lift_instr(alloc: Global, placed: &Placed, temps: u32) -> Result<SmallSte
     ensures few { IfOk result (λ xs. cost_of fenced_cost xs ≤ 62) }
     ensures selectable { IfOk result (λ xs. IsSelectable xs (end_of placed.now temps)) }
     ensures own { IfOk result (λ xs. SetsFrom temps xs) }
+    ensures unlocked { IfOk result (λ xs. AllByRecursion IsUnlocked xs) }
 {
-    let lifted = lift_each(alloc, placed, temps)?;
+    let lifted = lift_table(alloc, placed, temps)?;
     Ok(lifted)
 }
 
-/// The steps of one instruction.
-fn lift_each(alloc: Global, placed: &Placed, temps: u32) -> Result<SmallSteps, NoMemory>
+/// The steps of one instruction, as the table has them.
+fn lift_table(alloc: Global, placed: &Placed, temps: u32) -> Result<SmallSteps, NoMemory>
     ensures { IfOk result (λ xs. xs ≡ lifts placed.now.address (after placed.now) placed.now.instr temps) }
 {
     let site = Site {
