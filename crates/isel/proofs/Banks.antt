@@ -20,8 +20,10 @@ put_fit k v most a n value here = by (n == k)
     by true = value
     by false = here
 
+-- the register that is written holds the value
 pub put_here : (k v : ℕ) (a : Bank) → put k v a k ≡ v
 put_here k v a = grind (arith, nat_tests)
 
+-- all others hold what they held
 pub put_other : (k v : ℕ) (a : Bank) (n : ℕ) → n ≢ k → put k v a n ≡ a n
 put_other k v a n apart = grind (arith, nat_tests)

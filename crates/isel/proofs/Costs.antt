@@ -11,6 +11,7 @@ use Rattle.limm_ir.specs.declared.step.IrStep.TheVariants as steps
 use Rattle.a64_code.specs.declared.instr.A64.TheVariants as words
 use Rattle.isel.specs.Groups.{quarter_word, upper_words, number_words, op_words, last_bit, group_of, selected}
 
+-- a quarter takes a word where its bits are others
 quarter_few : (bits d v k : ℕ) → length (quarter_word bits d v k) ≤ bit (not (quarter_of v k == bits))
 quarter_few bits d v k = by (quarter_of v k == bits)
   where
@@ -18,6 +19,7 @@ quarter_few bits d v k = by (quarter_of v k == bits)
     by true = omega arith
     by false = omega arith
 
+-- the upper quarters take as many words as are others
 upper_few : (bits d v : ℕ) → length (upper_words bits d v) ≤ quarters_not bits v
 upper_few bits d v =
     omega (
@@ -29,6 +31,7 @@ upper_few bits d v =
       length-append (quarter_word bits d v 2) (quarter_word bits d v 3),
     )
 
+-- a number takes no more words than it costs
 number_few : (d v : ℕ) → length (number_words d v) ≤ number_cost v
 number_few d v = by (nat_le (quarters_not 0 v) (quarters_not 0xFFFF v))
   where
@@ -37,10 +40,12 @@ number_few d v = by (nat_le (quarters_not 0 v) (quarters_not 0xFFFF v))
     by true = omega (arith, upper_few 0 d v)
     by false = omega (arith, upper_few 0xFFFF d v)
 
+-- an operation takes no more words than it costs
 op_few : (last : ℕ) (op : IrOp) (d a b : ℕ) → length (op_words last op d a b) ≤ op_cost op
 op_few last ops.Mul d a b = omega arith
 op_few last op d a b = omega arith
 
+-- a step takes no more words than it costs
 group_few : (last : ℕ → ℕ) (x : IrStep) → length (group_of last x) ≤ step_cost x
 group_few last (steps.Const t v) = number_few (21 + t.0) v
 group_few last (steps.Op op t a b) = op_few (last b.0) op (21 + t.0) (21 + a.0) (21 + b.0)

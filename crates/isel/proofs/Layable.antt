@@ -34,14 +34,17 @@ Lays ws = AllByRecursion IsEncodable ws × AllByRecursion IsForward ws × StaysI
 abbrev LaysOut : List (A64 ℕ) → Type 0
 LaysOut ws = Lays (map (renamed some_register) ws)
 
+-- a property of the elements of both lists
 all_append : {A : Type 0} (P : A → Type 0) (xs ys : List A) → AllByRecursion P xs → AllByRecursion P ys → AllByRecursion P (xs ++ ys)
 all_append P [] ys first second = second
 all_append P (x ∷ xs) ys first second = (first.0, all_append P xs ys first.1 second)
 
+-- no branch leads beyond joined words
 inside_append : (xs ys : List (A64 XReg)) → StaysInside xs → StaysInside ys → StaysInside (xs ++ ys)
 inside_append [] ys first second = second
 inside_append (x ∷ xs) ys first second = (omega (arith, first.0, length-append xs ys), inside_append xs ys first.1 second)
 
+-- joined groups can be laid out
 lays_append : (xs ys : List (A64 ℕ)) → LaysOut xs → LaysOut ys → LaysOut (xs ++ ys)
 lays_append xs ys first second =
     let f = renamed some_register in
@@ -93,6 +96,7 @@ double w u encodable forward plain encodable' forward' plain' = lays_append (w �
 no_shift : (0 < 3) × (0 < 64)
 no_shift = (omega arith, omega arith)
 
+-- the word of a quarter
 quarter_lays : (bits t v k : ℕ) → k < 4 → LaysOut (quarter_word bits (21 + t) v k)
 quarter_lays bits t v k few = by (quarter_of v k == bits)
   where
@@ -100,11 +104,13 @@ quarter_lays bits t v k few = by (quarter_of v k == bits)
     by true = (tt, tt, tt)
     by false = single (words.Movk true (21 + t) (quarter_of v k) k) (temp t, (omega arith, few)) tt refl
 
+-- the words of the upper quarters
 upper_lays : (bits t v : ℕ) → LaysOut (upper_words bits (21 + t) v)
 upper_lays bits t v =
     lays_append (quarter_word bits (21 + t) v 1) (quarter_word bits (21 + t) v 2 ++ quarter_word bits (21 + t) v 3) (quarter_lays bits t v 1 (omega arith))
     (lays_append (quarter_word bits (21 + t) v 2) (quarter_word bits (21 + t) v 3) (quarter_lays bits t v 2 (omega arith)) (quarter_lays bits t v 3 (omega arith)))
 
+-- the words of a number
 number_lays : (t v : ℕ) → LaysOut (number_words (21 + t) v)
 number_lays t v = by (nat_le (quarters_not 0 v) (quarters_not 0xFFFF v))
   where
@@ -112,10 +118,12 @@ number_lays t v = by (nat_le (quarters_not 0 v) (quarters_not 0xFFFF v))
     by true = lays_append (words.Movz true (21 + t) (v % 2 ^ 16) 0 ∷ []) (upper_words 0 (21 + t) v) (single (words.Movz true (21 + t) (v % 2 ^ 16) 0) (temp t, (omega arith, omega arith)) tt refl) (upper_lays 0 t v)
     by false = lays_append (words.Movn true (21 + t) (0xFFFF - v % 2 ^ 16) 0 ∷ []) (upper_words 0xFFFF (21 + t) v) (single (words.Movn true (21 + t) (0xFFFF - v % 2 ^ 16) 0) (temp t, (omega arith, omega arith)) tt refl) (upper_lays 0xFFFF t v)
 
+-- the words of a comparison
 compare_lays : (code t a b : ℕ) → code < 14 → LaysOut (compare_words code (21 + t) (21 + a) (21 + b))
 compare_lays code t a b low =
     double (words.Subs true 20 (21 + a) (21 + b) 0 0) (words.Csinc true (21 + t) 20 20 code) (inr refl, operand (21 + a), operand (21 + b), no_shift) tt refl (temp t, inr refl, inr refl, low) tt refl
 
+-- the words of an operation
 op_lays : (k : Known) (op : IrOp) (t a b : ℕ) → HasConstant op k → LaysOut (op_words (last_bit k) op (21 + t) (21 + a) (21 + b))
 op_lays k ops.Add t a b has = single (words.Add true (21 + t) (21 + a) (21 + b) 0 0) (temp t, operand (21 + a), operand (21 + b), no_shift) tt refl
 op_lays k ops.Sub t a b has = single (words.Sub true (21 + t) (21 + a) (21 + b) 0 0) (temp t, operand (21 + a), operand (21 + b), no_shift) tt refl
@@ -137,9 +145,11 @@ op_lays k ops.LessS t a b has = compare_lays 10 t a b (omega arith)
 op_lays k ops.ZeroExt t a b has = single (words.Ubfm true (21 + t) (21 + a) 0 (last_bit k)) (temp t, temp a, omega arith, last_small k has) tt refl
 op_lays k ops.SignExt t a b has = single (words.Sbfm true (21 + t) (21 + a) 0 (last_bit k)) (temp t, temp a, omega arith, last_small k has) tt refl
 
+-- a copy into a number that has a register
 copy_lays : (d n : ℕ) → IsRegister (some_register d) → LaysOut (words.Orr true d 20 n 0 0 ∷ [])
 copy_lays d n named = single (words.Orr true d 20 n 0 0) (named, inr refl, operand n, no_shift) tt refl
 
+-- a trap has a number that BRK has
 trap_lays : (kind : TrapKind) → (1 ≤ trap_number kind) × (trap_number kind ≤ 4)
 trap_lays kinds.BadAccess = (omega arith, omega arith)
 trap_lays kinds.Divide = (omega arith, omega arith)
@@ -147,6 +157,7 @@ trap_lays kinds.Invalid = (omega arith, omega arith)
 trap_lays kinds.BadReturn = (omega arith, omega arith)
 trap_lays kinds.BadJump = (omega arith, omega arith)
 
+-- the group of each step
 group_lays : (known : ℕ → Known) (x : IrStep) → InRange known x → LaysOut (group_of (λ t. last_bit (known t)) x)
 group_lays known (steps.Const t v) range = number_lays t.0 v
 group_lays known (steps.GetReg t r) range = copy_lays (21 + t.0) r (temp t.0)
@@ -181,6 +192,7 @@ selected_lays end known [] well = (tt, tt, tt)
 selected_lays end known (x ∷ xs) well =
     lays_append (group_of (λ t. last_bit (known t)) x) (selected (learn x known) xs) (group_lays known x well.1) (selected_lays end (learn x known) xs well.2)
 
+-- the end reads registers of temporaries
 end_lays : (end : IrEnd) → EndsOnRegisters (renamed_end some_register (selected_end end))
 end_lays (ends.Goto a) = tt
 end_lays (ends.Branch t a b) = (temp t.0, tt)

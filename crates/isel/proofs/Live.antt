@@ -28,6 +28,7 @@ low_step known (steps.GetFlag t f) range = range
 low_step known (steps.SetFlag f t) range = range
 low_step known x range = tt
 
+-- in all steps of a block that is well made
 all_low : (end : IrEnd) (known : ℕ → Known) (xs : List IrStep) → IsWell end known xs → AllByRecursion IsLow xs
 all_low end known [] well = tt
 all_low end known (x ∷ xs) well = (low_step known x well.1, all_low end (learn x known) xs well.2)
@@ -59,15 +60,18 @@ data Parts {A : Type 0} (g rest before : List A) (w : A) (behind : List A) : Typ
   within : (right : List A) → g ≡ before ++ w ∷ right → behind ≡ right ++ rest → Parts g rest before w behind
   beyond : (more : List A) → before ≡ g ++ more → rest ≡ more ++ w ∷ behind → Parts g rest before w behind
 
+-- the same of lists with one more element at the front
 one_more : {A : Type 0} (y z : A) (g rest before : List A) (w : A) (behind : List A) → y ≡ z → Parts g rest before w behind → Parts (y ∷ g) rest (z ∷ before) w behind
 one_more y z g rest before w behind same (within right e f) = within right (cc) f
 one_more y z g rest before w behind same (beyond more e f) = beyond more (cc) f
 
+-- where an element of joined lists stands
 parts : {A : Type 0} (g rest before : List A) (w : A) (behind : List A) → g ++ rest ≡ before ++ w ∷ behind → Parts g rest before w behind
 parts [] rest before w behind e = beyond before refl e
 parts (y ∷ g) rest [] w behind e = within g (cc) (cc)
 parts (y ∷ g) rest (z ∷ before) w behind e = one_more y z g rest before w behind (cc) (parts g rest before w behind (cc))
 
+-- the empty list has no element
 no_word : {A : Type 0} (before : List A) (w : A) (behind : List A) → [] ≡ before ++ w ∷ behind → ⊥
 no_word [] w behind e = cc
 no_word (z ∷ before) w behind e = cc
@@ -85,6 +89,7 @@ record Cut (known : ℕ → Known) (xs : List IrStep) (before : List (A64 ℕ)) 
   before_is : before ≡ selected known front ++ left
   behind_is : behind ≡ right ++ selected (learn step now) back
 
+-- the group in which a word stands
 cut : (known : ℕ → Known) (xs : List IrStep) (before : List (A64 ℕ)) (w : A64 ℕ) (behind : List (A64 ℕ)) → selected known xs ≡ before ++ w ∷ behind → Cut known xs before w behind
 cut known [] before w behind e = absurd (no_word before w behind e)
 cut known (x ∷ xs) before w behind e =
@@ -107,26 +112,31 @@ cut known (x ∷ xs) before w behind e =
 
 -- ---- what words set and use
 
+-- what joined words set
 set_append : (ws vs : List (A64 ℕ)) (n : ℕ) → IsSetIn (ws ++ vs) n → IsSetIn ws n ⊎ IsSetIn vs n
 set_append [] vs n h = inr h
 set_append (w ∷ ws) vs n (inl e) = inl (inl e)
 set_append (w ∷ ws) vs n (inr h) = elim (set_append ws vs n h) [ inl first ↦ inl (inr first) | inr second ↦ inr second ]
 
+-- what words set, they set before others
 set_left : (ws vs : List (A64 ℕ)) (n : ℕ) → IsSetIn ws n → IsSetIn (ws ++ vs) n
 set_left [] vs n h = elim h [ ]
 set_left (w ∷ ws) vs n (inl e) = inl e
 set_left (w ∷ ws) vs n (inr h) = inr (set_left ws vs n h)
 
+-- what words set, they set behind others
 set_right : (ws vs : List (A64 ℕ)) (n : ℕ) → IsSetIn vs n → IsSetIn (ws ++ vs) n
 set_right [] vs n h = h
 set_right (w ∷ ws) vs n h = inr (set_right ws vs n h)
 
+-- what occurs in joined words
 occurs_append : (fin : AEnd ℕ) (ws vs : List (A64 ℕ)) (n : ℕ) → Occurs fin (ws ++ vs) n → OccursIn ws n ⊎ Occurs fin vs n
 occurs_append fin [] vs n h = inr h
 occurs_append fin (w ∷ ws) vs n (inl e) = inl (inl e)
 occurs_append fin (w ∷ ws) vs n (inr (inl h)) = inl (inr (inl h))
 occurs_append fin (w ∷ ws) vs n (inr (inr h)) = elim (occurs_append fin ws vs n h) [ inl first ↦ inl (inr (inr first)) | inr second ↦ inr second ]
 
+-- what occurs in words occurs behind others
 occurs_right : (ws vs : List (A64 ℕ)) (n : ℕ) → OccursIn vs n → OccursIn (ws ++ vs) n
 occurs_right [] vs n h = h
 occurs_right (w ∷ ws) vs n h = inr (inr (occurs_right ws vs n h))
@@ -153,6 +163,7 @@ words_occur end known (x ∷ xs) low n high h =
 
 -- ---- set once
 
+-- what is set behind a step is set in the block
 set_behind : (front : List IrStep) (x : IrStep) (back : List IrStep) (t : ℕ) → ir.IsSetIn back t → ir.IsSetIn (front ++ x ∷ back) t
 set_behind [] x back t h = inr h
 set_behind (y ∷ front) x back t h = inr (set_behind front x back t h)
@@ -165,6 +176,7 @@ once_before (y ∷ front) x back t once (inl (inl is_set)) again = once.0 t is_s
 once_before (y ∷ front) x back t once (inl (inr h)) again = once_before front x back t once.1 (inl h) again
 once_before (y ∷ front) x back t once (inr is_set) again = once_before front x back t once.1 (inr is_set) again
 
+-- a property of all elements of two lists joined
 all_front : {A : Type 0} (P : A → Type 0) (xs ys : List A) → AllByRecursion P (xs ++ ys) → AllByRecursion P xs × AllByRecursion P ys
 all_front P [] ys all = (tt, all)
 all_front P (x ∷ xs) ys all = let rest = all_front P xs ys all.1 in ((all.0, rest.0), rest.1)
@@ -173,9 +185,11 @@ all_front P (x ∷ xs) ys all = let rest = all_front P xs ys all.1 in ((all.0, r
 
 module _ (xs : List IrStep) (end : IrEnd) (known : ℕ → Known) (low : AllByRecursion IsLow xs) (once : SetsOnce xs)
     (before : List (A64 ℕ)) (w : A64 ℕ) (behind : List (A64 ℕ)) (c : Cut known xs before w behind) where
+  -- registers and flags are in range up to the word and from there on
   lows : AllByRecursion IsLow c.front × AllByRecursion IsLow (c.step ∷ c.back)
   lows = all_front IsLow c.front (c.step ∷ c.back) (subst (λ l. AllByRecursion IsLow l) c.split low)
 
+  -- the group of the word reads and sets what its step does
   fine : Fine c.step false (c.left ++ w ∷ c.right)
   fine = subst (λ g. Fine c.step false g) c.group (group_fine (λ t. last_bit (c.now t)) c.step lows.1.0)
 
@@ -203,10 +217,12 @@ module _ (xs : List IrStep) (end : IrEnd) (known : ℕ → Known) (low : AllByRe
   live_at : (n : ℕ) → IsLiveAt (selected_end end) before w behind n → ir.IsLiveAt end c.front c.step c.back (n - 21)
   live_at n h = let so_far = set_so_far n h.0 h.1 in (so_far, used n h.0 so_far h.2)
 
+  -- the temporaries of live numbers are live
   all_live : (ns : List ℕ) → AllByRecursion (IsLiveAt (selected_end end) before w behind) ns → AllByRecursion (ir.IsLiveAt end c.front c.step c.back) (map (λ n. n - 21) ns)
   all_live [] live = tt
   all_live (n ∷ ns) live = (live_at n live.0, all_live ns live.1)
 
+  -- a temporary differs from the others where its number does
   apart_from : (m : ℕ) (ns : List ℕ) → 20 < m → AllByRecursion (IsLiveAt (selected_end end) before w behind) ns → AllByRecursion (λ n. eqb m n ≡ false) ns → AllByRecursion (λ t. eqb (m - 21) t ≡ false) (map (λ n. n - 21) ns)
   apart_from m [] high live apart = tt
   apart_from m (n ∷ ns) high live apart = (still m n high live.0.0 apart.0, apart_from m ns high live.1 apart.1)
@@ -214,6 +230,7 @@ module _ (xs : List IrStep) (end : IrEnd) (known : ℕ → Known) (low : AllByRe
       still : (m n : ℕ) → 20 < m → 20 < n → eqb m n ≡ false → eqb (m - 21) (n - 21) ≡ false
       still m n p q e = grind (arith, nat_tests)
 
+  -- the temporaries of distinct numbers are distinct
   all_distinct : (ns : List ℕ) → AllByRecursion (IsLiveAt (selected_end end) before w behind) ns → IsDistinct eqb ns → IsDistinct eqb (map (λ n. n - 21) ns)
   unfolding IsDistinct
   all_distinct [] live distinct = tt

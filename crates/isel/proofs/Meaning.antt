@@ -70,10 +70,12 @@ module _ (may : Permission) (known : ℕ → Known) (i : IrState) (s : AState) (
   reg_step r t low is_set = let fits = temp_fits known i s here t is_set in
       spend {less = 0} (omega arith) (give (both-go (refl, wrote_reg known i s here s.nzcv r _ (of i t) low (copied _ (of i t) (reads_temp known i s here t is_set) fits) fits)))
 
+  -- a copy into a flag
   flag_step : (f : ℕ) (t : Temp) → f < 4 → IsSet (known t.0) → Does (know None Set known) 1 (goes (record i { flags = put f (of i t) i.flags })) (a64_words numbers may at (group_of (λ u. last_bit (known u)) (steps.SetFlag f t)) 0 s)
   flag_step f t low is_set = let fits = temp_fits known i s here t is_set in
       spend {less = 0} (omega arith) (give (both-go (refl, wrote_flag known i s here s.nzcv f _ (of i t) low (copied _ (of i t) (reads_temp known i s here t is_set) fits) fits)))
 
+  -- a copy into a temporary
   copy_step : (t : Temp) (n v : ℕ) → value numbers s n ≡ v → v < 2 ^ 64 → Does (know (Some t.0) Set known) 1 (goes (set t v i)) (a64_words numbers may at (words.Orr true (21 + t.0) 20 n 0 0 ∷ []) 0 s)
   copy_step t n v is fits = computes may known i s at here (words.Orr true (21 + t.0) 20 n 0 0) t _ v refl refl (copied (value numbers s n) v is fits) fits
 
@@ -104,6 +106,7 @@ module _ (may : Permission) (known : ℕ → Known) (i : IrState) (s : AState) (
   address_is : (a : Temp) (size : ℕ) → IsSet (known a.0) → of i a ≡ (value numbers s (21 + a.0) + 0 * size) % 2 ^ 64
   address_is a size is_set = rw (reads_temp known i s here a is_set) (omega (arith, temp_fits known i s here a is_set))
 
+  -- a read
   load_step : (t a : Temp) (size place : ℕ) → IsSize size → IsSet (known a.0)
       → Does (know (Some t.0) Set known) 1 (ir_step may (steps.Load t a size place) i) (a64_words numbers may at (words.Ldr size (21 + t.0) (21 + a.0) 0 ∷ []) 0 s)
   load_step t a size place sized is_set =
@@ -113,6 +116,7 @@ module _ (may : Permission) (known : ℕ → Known) (i : IrState) (s : AState) (
       (Acts (256 ^ size) (λ v. access Read false at (of i a) size v ∷ []) (λ v. gets v s.nzcv)) (last (Some (21 + t.0)))
       (act (λ v lt. refl) (λ v lt. give (both-go (refl, wrote_temp known i s here s.nzcv t Set v v refl (size_fits size v sized lt) (only_set v)))))))
 
+  -- a write
   store_step : (a v : Temp) (size place : ℕ) → IsSet (known a.0) → IsSet (known v.0)
       → Does (know None Set known) 1 (ir_step may (steps.Store a v size place) i) (a64_words numbers may at (words.Str size (21 + v.0) (21 + a.0) 0 ∷ []) 0 s)
   store_step a v size place set_a set_v =
@@ -134,6 +138,7 @@ module _ (may : Permission) (known : ℕ → Known) (i : IrState) (s : AState) (
       (act (λ v lt. ap (λ o. lowered (access Read true at (of i a) size v ∷ locked_write at (of i a) size o)) (alike v) ∙ pair_alike place at (of i a) size v (new v))
       (λ v lt. give (both-go (refl, wrote_temp known i s here s.nzcv t Set v v refl (size_fits size v sized lt) (only_set v))))))
 
+  -- a locked pair
   rmw_step : (op : RmwOp) (t a v : Temp) (size place : ℕ) → IsSize size → IsSet (known a.0) → IsSet (known v.0)
       → Does (know (Some t.0) Set known) 1 (ir_step may (steps.Rmw op t a v size place) i) (a64_words numbers may at (rmw_word op size (21 + v.0) (21 + t.0) (21 + a.0) ∷ []) 0 s)
   rmw_step rmw.Swap t a v size place sized set_a set_v = spend {less = 0} (omega arith) (exchange t a size place _ _ _ sized (reads_temp known i s here a set_a) (λ old. ap (λ n. Some (rmw_value rmw.Swap old n)) (reads_temp known i s here v set_v)))
@@ -142,14 +147,17 @@ module _ (may : Permission) (known : ℕ → Known) (i : IrState) (s : AState) (
   rmw_step rmw.Flip t a v size place sized set_a set_v = spend {less = 0} (omega arith) (exchange t a size place _ _ _ sized (reads_temp known i s here a set_a) (λ old. ap (λ n. Some (rmw_value rmw.Flip old n)) (reads_temp known i s here v set_v)))
   rmw_step rmw.Set t a v size place sized set_a set_v = spend {less = 0} (omega arith) (exchange t a size place _ _ _ sized (reads_temp known i s here a set_a) (λ old. ap (λ n. Some (rmw_value rmw.Set old n)) (reads_temp known i s here v set_v)))
 
+  -- a fence is a barrier
   fence_step : (f : IrFence) → Does (know None Set known) 1 (ir_step may (steps.Fence f) i) (a64_words numbers may at (group_of (λ u. last_bit (known u)) (steps.Fence f)) 0 s)
   fence_step Frm = spend {less = 0} (omega arith) (act (λ v lt. refl) (λ v lt. give (both-go (refl, kept known i s here s.nzcv))))
   fence_step Fww = spend {less = 0} (omega arith) (act (λ v lt. refl) (λ v lt. give (both-go (refl, kept known i s here s.nzcv))))
   fence_step Fsc = spend {less = 0} (omega arith) (act (λ v lt. refl) (λ v lt. give (both-go (refl, kept known i s here s.nzcv))))
 
+  -- a value comes in
   input_step : Does (know None Set known) 1 (ir_step may steps.Input i) (a64_words numbers may at (words.Svc 1 ∷ []) 0 s)
   input_step = spend {less = 0} (omega arith) (act (λ v lt. refl) (λ v lt. give (both-go (refl, wrote_reg known i s here s.nzcv 0 v v (omega arith) refl lt))))
 
+  -- a value goes out
   output_step : Does (know None Set known) 1 (ir_step may steps.Output i) (a64_words numbers may at (words.Svc 2 ∷ []) 0 s)
   output_step = spend {less = 0} (omega arith)
       (act (λ v lt. ap (λ n. lowered (items.Output (record { value = n; place = 0 }) ∷ [])) (here.same.regs 7 (omega arith))) (λ v lt. give (both-go (refl, kept known i s here s.nzcv))))
@@ -162,6 +170,7 @@ module _ (may : Permission) (known : ℕ → Known) (i : IrState) (s : AState) (
   trap_step kinds.BadReturn next apart = give both-stop
   trap_step kinds.BadJump next apart = give both-stop
 
+  -- a trap where the temporary is not 0
   trap_if_step : (t : Temp) (kind : TrapKind) → kind ≢ kinds.BadAccess → IsSet (known t.0)
       → Does (know None Set known) 2 (ir_step may (steps.TrapIf t kind) i) (a64_words numbers may at (group_of (λ u. last_bit (known u)) (steps.TrapIf t kind)) 0 s)
   trap_if_step t kind apart is_set =
@@ -245,6 +254,7 @@ module _ (may : Permission) (end : IrEnd) where
   Kept known xs = (at : ℕ) (i : IrState) (s : AState) → Numbered known i s
       → Keeps lowered 1 0 (SameNext (SameLeft SameNumbered)) (ir_block step_cost may xs end i) (a64_block numbers may at (selected known xs) (selected_end end) s)
 
+  -- what is known of temporaries goes along from step to step
   steps_keep : (known : ℕ → Known) (xs : List IrStep) → IsWell end known xs → SetsOnce xs → SetsLater known xs → AllByRecursion Fits xs → Kept known xs
   steps_keep known [] well once later fits at i s here = beside_keeps lowered sees-lowered 1 (SameNext (SameLeft SameNumbered)) (end_does end known i s here well.0)
   steps_keep known (x ∷ xs) well once later fits at i s here =

@@ -65,6 +65,7 @@ module _ (may : Permission) (known : ℕ → Known) (i : IrState) (t : Temp) (v 
       (quarter_step bits 3 three v skip3 merge3 fits 0 at2 [] (quarter_of v 3 == bits) refl s2 here2 held2
       (λ at3 s3 here3 held3. give (both-go (refl, holds_temp known i s3 here3 t (Constant v) v held3 (constant_same v))))))))
 
+  -- the words that make a number do what its step does
   pub number_step : (at : ℕ) (s : AState) → Numbered known i s → Makes (number_cost v) at (number_words (21 + t.0) v) s
   number_step at s here = by (nat_le (quarters_not 0 v) (quarters_not 0xFFFF v))
     where

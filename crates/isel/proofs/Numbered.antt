@@ -56,6 +56,7 @@ module _ (known : ℕ → Known) (i : IrState) (s : AState) (here : Numbered kno
       by true e = absurd (grind (arith, nat_tests))
       by false e = refl
 
+  -- it fits 64 bits
   pub reg_fits : (r : ℕ) → r < 16 → i.regs r < 2 ^ 64
   reg_fits r lt = omega (arith, here.same.regs r lt, here.same.fit r)
 
@@ -67,6 +68,7 @@ module _ (known : ℕ → Known) (i : IrState) (s : AState) (here : Numbered kno
       by true e = absurd (grind (arith, nat_tests))
       by false e = refl
 
+  -- it fits 64 bits
   pub flag_fits : (f : ℕ) → f < 4 → i.flags f < 2 ^ 64
   flag_fits f lt = omega (arith, here.same.flags f lt, here.same.fit (16 + f))
 

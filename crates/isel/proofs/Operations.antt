@@ -58,19 +58,24 @@ module _ (may : Permission) (known : ℕ → Known) (i : IrState) (s : AState) (
 
 module _ (may : Permission) (known : ℕ → Known) (i : IrState) (s : AState) (at : ℕ) (here : Numbered known i s) (t a b : Temp)
     (set_a : IsSet (known a.0)) (set_b : IsSet (known b.0)) (fresh : IsSet (known t.0) → ⊥) where
+  -- the words of an operation do what its step does
   abbrev Op : IrOp → Type 0
   Op op = Does (know (Some t.0) Set known) (op_cost op) (goes (set t (op_value op (of i a) (of i b)) i))
       (a64_words numbers may at (op_words (last_bit (known b.0)) op (21 + t.0) (21 + a.0) (21 + b.0)) 0 s)
 
+  -- what the number of the first operand reads as
   at_a : value numbers s (21 + a.0) ≡ of i a
   at_a = reads_temp known i s here a set_a
 
+  -- what that of the second reads as
   at_b : value numbers s (21 + b.0) ≡ of i b
   at_b = reads_temp known i s here b set_b
 
+  -- the first operand fits 64 bits
   fit_a : of i a < 2 ^ 64
   fit_a = temp_fits known i s here a set_a
 
+  -- the second fits 64 bits
   fit_b : of i b < 2 ^ 64
   fit_b = temp_fits known i s here b set_b
 
@@ -98,6 +103,7 @@ module _ (may : Permission) (known : ℕ → Known) (i : IrState) (s : AState) (
   bytes (Constant m) n (inr (inl e)) is = (omega (arith, e, is m refl), omega (arith, is m refl))
   bytes (Constant m) n (inr (inr e)) is = (omega (arith, e, is m refl), omega (arith, is m refl))
 
+  -- each operation, a line for each
   pub op_step : (op : IrOp) → HasConstant op (known b.0) → Op op
   op_step ops.Add has = computes may known i s at here (words.Add true (21 + t.0) (21 + a.0) (21 + b.0) 0 0) t _ _ refl refl (add_is _ _ _ _ at_a at_b fit_a fit_b) (omega arith)
   op_step ops.Sub has = computes may known i s at here (words.Sub true (21 + t.0) (21 + a.0) (21 + b.0) 0 0) t _ _ refl refl (sub_is _ _ _ _ at_a at_b fit_a fit_b) (omega arith)

@@ -27,6 +27,7 @@ step_small steps.Input sets reads = tt
 step_small steps.Output sets reads = tt
 step_small (steps.TrapIf t kind) sets reads = reads.0
 
+-- an end reads small temporaries
 end_small : (end : IrEnd) → AllByRecursion IsSmall (end_reads end) → HasSmallEnd end
 end_small (ends.Goto a) reads = tt
 end_small (ends.Branch t a b) reads = reads.0
@@ -40,6 +41,7 @@ all_wider P Q wider [] here = tt
 all_wider P Q wider (x ∷ xs) here = (wider x here.0, all_wider P Q wider xs here.1)
 
 module _ (end : IrEnd) where
+  -- what is set before and by the steps is small, so all is
   all_small : (known : ℕ → Known) (xs : List IrStep) → IsWell end known xs → ((t : ℕ) → IsSet (known t) → IsSmall t) → ((t : ℕ) → IsSetIn xs t → IsSmall t) → AllByRecursion HasSmall xs × HasSmallEnd end
   all_small known [] well before later = (tt, end_small end (all_wider (λ t. IsSet (known t)) IsSmall before (end_reads end) well.0))
   all_small known (x ∷ xs) well before later =

@@ -1,7 +1,7 @@
 -- A block whose steps set temporaries in rising order, none of them above 5, has at most six of them live. Tests rest on this.
-use Rattle.std.proofs.Common.{◌≡◌, ◌⊎◌, ℕ, suc, ◌<◌, ◌≤◌, Bool, true, false, List, [], ◌∷◌, ◌++◌, length, Option, Some, None, inl, inr, refl, sym, ap, ◌∙◌, subst, arith}
+use Rattle.std.proofs.Common.{◌≡◌, ◌⊎◌, ℕ, suc, ◌<◌, ◌≤◌, Bool, true, false, List, [], ◌∷◌, ◌++◌, Option, Some, None, inl, inr, refl, sym, subst, arith}
 use Rattle.std.specs.Prelude.{eqb, ◌||◌}
-use Rattle.std.specs.List.{AllByRecursion, IsDistinct, list_any}
+use Rattle.std.specs.List.{AllByRecursion, list_any}
 use Rattle.std.proofs.lemmas.Bool.{eqb-true}
 use Rattle.std.proofs.lemmas.Map.Steps.{length-le_from_distinct_below}
 use Rattle.limm_ir.specs.Conditions.{IsSetIn, SetsOnce, IsWellMade, IsSelectable, IsLiveAt, LiveAtMost, step_sets}
@@ -24,10 +24,12 @@ abbrev pub Rising : (low high : ℕ) → List IrStep → Type 0
 Rising low high [] = Unit {0}
 Rising low high (x ∷ xs) = InTurn low high (step_sets x) × Rising (next low (step_sets x)) high xs
 
+-- what is set in turn lies between the two
 in_turn : (low high t : ℕ) (one : Option ℕ) → InTurn low high one → one ≡ Some t → (low ≤ t) × (t < high)
 in_turn low high t None turn e = absurd (none_some t e)
 in_turn low high t (Some u) turn e = subst (λ n. (low ≤ n) × (n < high)) (some_same u t e) turn
 
+-- what is not below the next number is not below this one
 at_least : (low high t : ℕ) (one : Option ℕ) → InTurn low high one → next low one ≤ t → low ≤ t
 at_least low high t None turn le = le
 at_least low high t (Some u) turn le = omega (arith, turn.0, le)
@@ -50,6 +52,7 @@ rising_once low high (x ∷ xs) rising =
     beyond t None e le = none_some t e
     beyond t (Some u) e le = absurd (omega (arith, some_same u t e, le))
 
+-- what is set up to a step is set in the block
 set_before : (front : List IrStep) (x : IrStep) (back : List IrStep) (t : ℕ) → IsSetIn front t ⊎ (step_sets x ≡ Some t) → IsSetIn (front ++ x ∷ back) t
 set_before [] x back t (inl h) = elim h [ ]
 set_before [] x back t (inr e) = inl e

@@ -29,11 +29,13 @@ abbrev pub Among : List ℕ → ℕ → Type 0
 Among [] n = ⊥
 Among (t ∷ ts) n = (t ≡ n) ⊎ Among ts n
 
+-- what a list contains is among its elements
 pub among : (ts : List ℕ) (n : ℕ) → Contains ts n → Among ts n
 among [] n (k, lt, e) = absurd (omega (arith, lt))
 among (t ∷ ts) n (zero, lt, e) = inl e
 among (t ∷ ts) n (suc k, lt, e) = inr (among ts n (k, omega (arith, lt), e))
 
+-- what is among its elements a list contains
 pub contained : (ts : List ℕ) (n : ℕ) → Among ts n → Contains ts n
 contained [] n h = elim h [ ]
 contained (t ∷ ts) n (inl e) = (0, omega arith, e)
@@ -56,9 +58,11 @@ lower [] n h = elim h [ ]
 lower (t ∷ ts) n (inl e) = inl (omega (arith, e))
 lower (t ∷ ts) n (inr h) = inr (lower ts n h)
 
+-- one value
 pub some_same : (a b : ℕ) → Some a ≡ Some b → a ≡ b
 some_same a b e = cc
 
+-- no value is not a value
 pub none_some : (n : ℕ) → None ≡ Some n → ⊥
 none_some n e = cc
 
@@ -120,15 +124,18 @@ module _ (fin : AEnd ℕ) (x : IrStep) (n : ℕ) (high : 20 < n) (rest : List (A
   abbrev pub ReadsFirst : Type 0
   ReadsFirst = Among (step_reads x) (n - 21) ⊎ ((step_sets x ≡ Some (n - 21) → ⊥) × IsReadFirst fin rest 0 n)
 
+  -- a word that does not branch goes on with the next
   on : (w : A64 ℕ) (ws : List (A64 ℕ)) → a64_skip w ≡ 0 → IsReadFirst fin ws 0 n ⊎ IsReadFirst fin ws (a64_skip w) n → IsReadFirst fin ws 0 n
   on w ws plain (inl h) = h
   on w ws plain (inr h) = subst (λ k. IsReadFirst fin ws k n) plain h
 
+  -- one word: it reads the number, or does not set it and the number is read behind it
   word_read : (w : A64 ℕ) (done : Bool) (ws : List (A64 ℕ)) → Uses x done w → a64_skip w ≡ 0 → (done ≡ true → step_sets x ≡ Some (n - 21) → ⊥)
       → ((a64_result numbers w ≡ Some n → ⊥) → IsReadFirst fin ws 0 n → ReadsFirst) → IsReadFirst fin (w ∷ ws) 0 n → ReadsFirst
   word_read w done ws uses plain apart later (inl h) = elim (uses n high (among (a64_operands numbers w) n h)) [ inl r ↦ inl r | inr r ↦ absurd (apart r.0 r.1) ]
   word_read w done ws uses plain apart later (inr h) = later h.0 (on w ws plain h.1)
 
+  -- the words of a group that does not branch
   first_read : {done : Bool} {ws : List (A64 ℕ)} → Fine x done ws → Straight ws → (done ≡ true → step_sets x ≡ Some (n - 21) → ⊥) → IsReadFirst fin (ws ++ rest) 0 n → ReadsFirst
   first_read (nothing none) straight apart read = inr ((λ e. none_some (n - 21) (sym none ∙ e)), read)
   first_read finished straight apart read = inr (apart refl, read)
@@ -154,6 +161,7 @@ low_operand k n low high e = absurd (omega (arith, e, low, high))
 one_fine : (x : IrStep) (w : A64 ℕ) (t : ℕ) → step_sets x ≡ Some t → a64_result numbers w ≡ Some (21 + t) → a64_operands numbers w ≡ numbers_of (step_reads x) → Fine x false (w ∷ [])
 one_fine x w t is_set result operands = sets t (λ n high r. inl (lower (step_reads x) n (subst (λ l. Among l n) operands r))) is_set result finished
 
+-- the words of a comparison
 compare_fine : (op : IrOp) (t a b : Temp) (code : ℕ) → Fine (steps.Op op t a b) false (compare_words code (21 + t.0) (21 + a.0) (21 + b.0))
 compare_fine op t a b code =
     passes (λ n high r. inl (lower (a.0 ∷ b.0 ∷ []) n r)) (λ n high e. low_result 20 n (omega arith) high e)
@@ -164,6 +172,7 @@ first_fine : (op : IrOp) (t a b : Temp) (w : A64 ℕ) → a64_result numbers w �
 first_fine op t a b w result operands =
     sets t.0 (λ n high r. inl (elim (lower (a.0 ∷ []) n (subst (λ l. Among l n) operands r)) [ inl e ↦ inl e | inr e ↦ elim e [ ] ])) refl result finished
 
+-- the words of an operation
 op_fine : (last : ℕ) (op : IrOp) (t a b : Temp) → Fine (steps.Op op t a b) false (op_words last op (21 + t.0) (21 + a.0) (21 + b.0))
 op_fine last ops.Mul t a b =
     sets t.0 (λ n high r. elim r [ ]) refl refl
@@ -195,12 +204,14 @@ quarter_fine t v bits k ws fine = by (quarter_of v k == bits)
     by true = fine
     by false = sets t.0 (λ n high r. elim r [ inl e ↦ inr (refl, ap Some (omega (arith, e))) | inr e ↦ elim e [ ] ]) refl refl fine
 
+-- the words of the upper quarters
 upper_fine : (t : Temp) (v bits : ℕ) → Fine (steps.Const t v) true (upper_words bits (21 + t.0) v)
 upper_fine t v bits =
     quarter_fine t v bits 1 (quarter_word bits (21 + t.0) v 2 ++ quarter_word bits (21 + t.0) v 3)
     (quarter_fine t v bits 2 (quarter_word bits (21 + t.0) v 3)
     (subst (λ l. Fine (steps.Const t v) true l) (append-nil (quarter_word bits (21 + t.0) v 3)) (quarter_fine t v bits 3 [] finished)))
 
+-- the words of a number
 number_fine : (t : Temp) (v : ℕ) → Fine (steps.Const t v) false (number_words (21 + t.0) v)
 number_fine t v = by (nat_le (quarters_not 0 v) (quarters_not 0xFFFF v))
   where
@@ -214,6 +225,7 @@ behind_zero x k n high reads (inl e) = absurd (low_operand 20 n (omega arith) hi
 behind_zero x k n high reads (inr (inl e)) = reads e
 behind_zero x k n high reads (inr (inr e)) = elim e [ ]
 
+-- the word of a locked step
 locked_fine : (op : RmwOp) (t a v : Temp) (size place : ℕ) (w : A64 ℕ) → a64_result numbers w ≡ Some (21 + t.0) → a64_operands numbers w ≡ (21 + v.0) ∷ (21 + a.0) ∷ []
     → Fine (steps.Rmw op t a v size place) false (w ∷ [])
 locked_fine op t a v size place w result operands =
@@ -268,6 +280,7 @@ group_fine last (steps.TrapIf t kind) range =
 
 -- ---- groups that do not branch
 
+-- the word of a quarter does not branch
 quarter_straight : (bits d v k : ℕ) (ws : List (A64 ℕ)) → Straight ws → Straight (quarter_word bits d v k ++ ws)
 quarter_straight bits d v k ws straight = by (quarter_of v k == bits)
   where
@@ -275,11 +288,13 @@ quarter_straight bits d v k ws straight = by (quarter_of v k == bits)
     by true = straight
     by false = (refl, straight)
 
+-- nor do those of the upper quarters
 upper_straight : (bits d v : ℕ) → Straight (upper_words bits d v)
 upper_straight bits d v =
     quarter_straight bits d v 1 (quarter_word bits d v 2 ++ quarter_word bits d v 3) (quarter_straight bits d v 2 (quarter_word bits d v 3)
     (subst Straight (append-nil (quarter_word bits d v 3)) (quarter_straight bits d v 3 [] tt)))
 
+-- nor do those of a number
 number_straight : (d v : ℕ) → Straight (number_words d v)
 number_straight d v = by (nat_le (quarters_not 0 v) (quarters_not 0xFFFF v))
   where
@@ -287,6 +302,7 @@ number_straight d v = by (nat_le (quarters_not 0 v) (quarters_not 0xFFFF v))
     by true = (refl, upper_straight 0 d v)
     by false = (refl, upper_straight 0xFFFF d v)
 
+-- nor do those of an operation
 op_straight : (last : ℕ) (op : IrOp) (d a b : ℕ) → Straight (op_words last op d a b)
 op_straight last ops.Mul d a b = (refl, (refl, tt))
 op_straight last ops.Eq d a b = (refl, (refl, tt))
@@ -294,19 +310,23 @@ op_straight last ops.LessU d a b = (refl, (refl, tt))
 op_straight last ops.LessS d a b = (refl, (refl, tt))
 op_straight last op d a b = (refl, tt)
 
+-- nor does that of a locked step
 locked_straight : (op : RmwOp) (size v d a : ℕ) → Straight (rmw_word op size v d a ∷ [])
 locked_straight rmw.Swap size v d a = (refl, tt)
 locked_straight op size v d a = (refl, tt)
 
+-- nor does a barrier
 fence_straight : (f : IrFence) → Straight (barrier_word f ∷ [])
 fence_straight fences.Frm = (refl, tt)
 fence_straight f = (refl, tt)
 
+-- false is not true
 false_true : false ≡ true → ⊥
 false_true e = cc
 
 -- A number that is read first in a group or behind it: the step reads it, or it is read first behind the step.
 module _ (fin : AEnd ℕ) (last : ℕ → ℕ) (n : ℕ) (high : 20 < n) (rest : List (A64 ℕ)) where
+  -- a group that does not branch
   straight_first : (x : IrStep) → IsLow x → Straight (group_of last x) → IsReadFirst fin (group_of last x ++ rest) 0 n → ReadsFirst fin x n high rest
   straight_first x range straight read = first_read fin x n high rest (group_fine last x range) straight (λ e again. false_true e) read
 
@@ -315,6 +335,7 @@ module _ (fin : AEnd ℕ) (last : ℕ → ℕ) (n : ℕ) (high : 20 < n) (rest :
   trap_first (inl h) = h
   trap_first (inr h) = h
 
+  -- each group
   pub group_first : (x : IrStep) → IsLow x → IsReadFirst fin (group_of last x ++ rest) 0 n → ReadsFirst fin x n high rest
   group_first (steps.TrapIf t kind) range (inl h) = inl (lower (t.0 ∷ []) n (among ((21 + t.0) ∷ []) n h))
   group_first (steps.TrapIf t kind) range (inr (other, inl (inl h))) = elim (among [] n h) [ ]

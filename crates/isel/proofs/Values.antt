@@ -25,18 +25,23 @@ pub copied : (v w : ℕ) → v ≡ w → w < 2 ^ 64 → low true (bit_or 0 (shif
 copied v w e fit = rw e (ap (λ u. low true (bit_or 0 u)) (plain w fit) ∙ ap (low true) (or_zero_l w) ∙ low_is w fit)
 
 module _ (m n a b : ℕ) (at_a : m ≡ a) (at_b : n ≡ b) (p : a < 2 ^ 64) (q : b < 2 ^ 64) where
+  -- ADD
   pub add_is : low true (m + shifted true 0 0 n) ≡ (a + b) % 2 ^ 64
   add_is = rw (at_a, at_b, plain b q) refl
 
+  -- SUB
   pub sub_is : subs_value 64 (low true m) (shifted true 0 0 n) ≡ (a + (2 ^ 64 - b)) % 2 ^ 64
   sub_is = rw (at_a, at_b, plain b q, low_is a p) refl
 
+  -- AND
   pub and_is : low true (bit_and m (shifted true 0 0 n)) ≡ bit_and a b
   and_is = rw (at_a, at_b, plain b q) (low_is (bit_and a b) (and_lt 64 a b p q))
 
+  -- ORR
   pub or_is : low true (bit_or m (shifted true 0 0 n)) ≡ bit_or a b
   or_is = rw (at_a, at_b, plain b q) (low_is (bit_or a b) (or_lt 64 a b p q))
 
+  -- EOR
   pub xor_is : low true (bit_xor m (shifted true 0 0 n)) ≡ bit_xor a b
   xor_is = rw (at_a, at_b, plain b q) (low_is (bit_xor a b) (xor_lt 64 a b p q))
 
@@ -46,22 +51,27 @@ module _ (m n a b : ℕ) (at_a : m ≡ a) (at_b : n ≡ b) (p : a < 2 ^ 64) (q :
 
 -- ---- what operations give fits 64 bits
 
+-- a shift to the right
 pub shr_fits : (a b : ℕ) → a < 2 ^ 64 → lsrv 64 a b < 2 ^ 64
 shr_fits a b p = omega (arith, div-le_self a (2 ^ (b % 64)))
 
+-- a turn
 pub ror_fits : (a b : ℕ) → a < 2 ^ 64 → rorv 64 a b < 2 ^ 64
 ror_fits a b p = turn_left_below 64 a ((64 - b % 64) % 64) p (omega arith)
 
+-- the upper half of a product without sign
 pub high_fits : (a b : ℕ) → a < 2 ^ 64 → b < 2 ^ 64 → umulh a b < 2 ^ 64
 high_fits a b p q =
     let wide : a * b ≤ a * 2 ^ 64 = mul-le-mul_left a (omega (arith, q)) in
     let few : a * b / 2 ^ 64 ≤ a = div-le_of_le-mul (2 ^ 64) (omega (arith, wide)) in
     omega (arith, few, p)
 
+-- the upper half of a product with sign
 pub high_signed_fits : (a b : ℕ) → smulh a b < 2 ^ 64
 unfolding smulh
 high_signed_fits a b = omega (arith, low_bits_below 128 (signed 64 a *ℤ signed 64 b))
 
+-- a quotient without sign
 pub udiv_fits : (a b : ℕ) → a < 2 ^ 64 → udiv 64 a b < 2 ^ 64
 udiv_fits a b p = by (b == 0)
   where
@@ -69,6 +79,7 @@ udiv_fits a b p = by (b == 0)
     by true = omega arith
     by false = omega (arith, p, div-le_self a b)
 
+-- a quotient with sign
 pub sdiv_fits : (a b : ℕ) → sdiv 64 a b < 2 ^ 64
 unfolding sdiv
 sdiv_fits a b = by (b == 0)
@@ -77,10 +88,12 @@ sdiv_fits a b = by (b == 0)
     by true = omega arith
     by false = low_bits_below 64 (int_div (signed 64 a) (signed 64 b))
 
+-- a flag
 pub bit_fits : (c : Bool) → bit c < 2 ^ 64
 bit_fits true = omega arith
 bit_fits false = omega arith
 
+-- a remainder, as an extension by zeros is one
 pub zero_ext_fits : (a b : ℕ) → a < 2 ^ 64 → a % b < 2 ^ 64
 zero_ext_fits a b p = omega (arith, mod-le a b, p)
 
