@@ -75,6 +75,7 @@ module _ (end : AEnd ℕ) (ws : List (A64 ℕ)) (i : ℕ) (w : A64 ℕ) (stands 
   set_now : (n : ℕ) → a64_result numbers w ≡ Some n → IsSetIn (take (i + 1) ws) n
   set_now n is = subst (λ l. IsSetIn l n) (sym (stands_take ws i w stands)) (set_more (take i ws) (w ∷ []) n (inr (inl is)))
 
+-- one word further too
 set_on : (ws : List (A64 ℕ)) (i n : ℕ) → IsSetIn (take i ws) n → IsSetIn (take (i + 1) ws) n
 set_on ws i n set = set_within ws i (i + 1) n (omega arith) set
 
@@ -114,6 +115,7 @@ module _ (end : AEnd ℕ) (ws : List (A64 ℕ)) (last : ℕ → Option ℕ) (are
     (s : IsScanned end ws slots until i) (r : ℕ) (is : a64_result numbers w ≡ Some r) (high : 20 < r) (none : slots r ≡ None) (free : ℕ) (low : free < 8) (unused : slice_index until free ≤ i)
     (late : ℕ) (lasts : last r ≡ Some late) (slots' : ℕ → Option ℕ) (until' : List ℕ) (long : length until' ≡ 8) (gives : slots' r ≡ Some free) (keeps : (n : ℕ) → (n ≡ r → ⊥) → slots' n ≡ slots n)
     (uses : slice_index until' free ≡ late) (stays : (slot : ℕ) → (slot ≡ free → ⊥) → slice_index until' slot ≡ slice_index until slot) where
+  -- the word is one of the words
   within : i < length ws
   within = stands_within ws i w stands
 
@@ -141,6 +143,9 @@ module _ (end : AEnd ℕ) (ws : List (A64 ℕ)) (last : ℕ → Option ℕ) (are
         | inr other ↦ inr (sym (keeps n other) ∙ has)
       ]
 
+  -- ---- each field of what is known, past the word
+
+  -- the temporaries with slots were set
   kept_more : (n slot : ℕ) → slots' n ≡ Some slot → (20 < n) × (slot < 8) × IsSetIn (take (i + 1) ws) n
   kept_more n slot has =
       elim (back n slot has) [
@@ -148,6 +153,7 @@ module _ (end : AEnd ℕ) (ws : List (A64 ℕ)) (last : ℕ → Option ℕ) (are
         | inr before ↦ (let k = s.kept n slot before in (k.0, k.1, set_on ws i n k.2))
       ]
 
+  -- each that was set has one
   each_more : (n : ℕ) → 20 < n → IsSetIn (take (i + 1) ws) n → (slot : ℕ) × (slots' n ≡ Some slot)
   each_more n above set =
       elim (set_next end ws i w stands n set) [
@@ -155,6 +161,7 @@ module _ (end : AEnd ℕ) (ws : List (A64 ℕ)) (last : ℕ → Option ℕ) (are
         | inr now ↦ (free, (let e : Some n ≡ Some r = sym now ∙ is in let same : n ≡ r = cc in ap slots' same ∙ gives))
       ]
 
+  -- none occurs later than its slot is in use
   ends_more : (n slot k : ℕ) → slots' n ≡ Some slot → k ≤ length ws → Occurs end (drop k ws) n → k ≤ slice_index until' slot
   ends_more n slot k has le there =
       elim (back n slot has) [
@@ -167,6 +174,7 @@ module _ (end : AEnd ℕ) (ws : List (A64 ℕ)) (last : ℕ → Option ℕ) (are
             ])
       ]
 
+  -- and one does until then
   busy_more : (slot : ℕ) → slot < 8 → i + 1 < slice_index until' slot → (n : ℕ) × (slots' n ≡ Some slot) × ((k : ℕ) → k ≤ slice_index until' slot → Occurs end (drop k ws) n)
   busy_more slot below lt =
       elim (cases_eq slot free) [
@@ -174,6 +182,7 @@ module _ (end : AEnd ℕ) (ws : List (A64 ℕ)) (last : ℕ → Option ℕ) (are
         | inr other ↦ (let b = s.busy slot below (omega (arith, lt, stays slot other)) in (b.0, old b.0 slot b.1, λ k le. b.2 k (omega (arith, le, stays slot other))))
       ]
 
+  -- two that still occur have different slots
   meet_more : (m n slot : ℕ) → (m ≡ n → ⊥) → slots' m ≡ Some slot → slots' n ≡ Some slot → Occurs end (drop (i + 1) ws) m → Occurs end (drop (i + 1) ws) n → ⊥
   meet_more m n slot other a b there there' =
       elim (back m slot a) [
@@ -212,6 +221,7 @@ module _ (end : AEnd ℕ) (ws : List (A64 ℕ)) (last : ℕ → Option ℕ) (are
         ]
       ]
 
+  -- so words up to this one set temporaries apart
   apart_more : AreApart end ws slots' (i + 1)
   apart_more j v q n slot lt at sets other set later a b =
       elim (cases_lt j i) [

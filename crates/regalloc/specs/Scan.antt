@@ -11,6 +11,7 @@ HasFree until at = (slot : ℕ) × (slot < length until) × (slice_index until s
 
 -- What a scan knows in front of the word at an index: which temporaries have slots, and until which word each slot is in use.
 pub record IsScanned (end : AEnd ℕ) (ws : List (A64 ℕ)) (slots : ℕ → Option ℕ) (until : List ℕ) (i : ℕ) : Type 0 where
+  -- there are eight slots
   pub eight : length until ≡ 8
   -- a temporary with a slot was set
   pub kept : (n slot : ℕ) → slots n ≡ Some slot → (20 < n) × (slot < 8) × IsSetIn (take i ws) n
@@ -22,4 +23,5 @@ pub record IsScanned (end : AEnd ℕ) (ws : List (A64 ℕ)) (slots : ℕ → Opt
   pub busy : (slot : ℕ) → slot < 8 → i < slice_index until slot → (n : ℕ) × (slots n ≡ Some slot) × ((k : ℕ) → k ≤ slice_index until slot → Occurs end (drop k ws) n)
   -- two that occur from here on have different slots
   pub meet : (m n slot : ℕ) → (m ≡ n → ⊥) → slots m ≡ Some slot → slots n ≡ Some slot → Occurs end (drop i ws) m → Occurs end (drop i ws) n → ⊥
+  -- and words before this one set temporaries apart
   pub apart : AreApart end ws slots i

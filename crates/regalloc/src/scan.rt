@@ -22,7 +22,7 @@ struct Scan {
     until: [usize; SLOTS],
 }
 
-/// The slot of each temporary that a block sets, from the last use of each number.
+/// The slot of each temporary that a block sets, from the last use of each.
 pub fn assign_slots(
     alloc: Global,
     block: &ABlock<u32>,
@@ -42,7 +42,7 @@ pub fn assign_slots(
     Ok(state.slots)
 }
 
-/// Gives the word's result a slot that no number needs any more, if it is a temporary that has none.
+/// Gives a word's result a slot that nothing uses behind the word, if it is a temporary that has none.
 fn scan_word(
     state: &mut Scan,
     block: &ABlock<u32>,
@@ -68,7 +68,7 @@ fn scan_word(
     Ok(())
 }
 
-/// The first slot that is not in use behind a word.
+/// The first slot that is not in use behind a word; there is one.
 fn free_slot(until: &[usize], at: usize) -> usize
     requires { HasFree until.now at }
     ensures within { result < length until.now }
@@ -80,7 +80,7 @@ fn free_slot(until: &[usize], at: usize) -> usize
     }
 }
 
-/// The last word that has a number.
+/// The last word that has a number, which some word has.
 fn last_use(last: &IndexMap<u32, usize>, number: u32) -> usize
     requires { IsSome (get nat_eq last.now number) }
     ensures { get nat_eq last.now number ≡ Some result }
