@@ -17,7 +17,7 @@ pub built_keeps : (b c : Builder) (e : Formula) (rest : Formula → Lifting) (t 
 unfolding keeps
 built_keeps b c e rest t at is =
     sym (append_assoc b.steps (computes b.next e) (rest (Kept (place b.next e)) (b.next + size e)))
-    ∙ sym (ap (λ d. so_far d (rest (Kept (place b.next e)))) is ) ∙ sym (ap (λ (u : Temp). so_far c (rest (Kept u.0))) at)
+    ∙ sym (ap (λ d. so_far d (rest (Kept (place b.next e)))) is) ∙ sym (ap (λ (u : Temp). so_far c (rest (Kept u.0))) at)
 
 -- a value is computed, and a step that does not set a temporary stands behind its steps
 built_then : (b c d : Builder) (e : Formula) (x : Temp → IrStep) (rest : Lifting) (t : Temp) → t ≡ temp (place b.next e) → c ≡ built_on b (computes b.next e) (b.next + size e)

@@ -44,7 +44,11 @@ impl Builder {
     {
         match operand {
             Operand::Reg(register) => self.keep(part_of(width, *register)),
-            Operand::Mem(memory) => self.load(site.at, bytes(width), address_of(memory, site.after)),
+            Operand::Mem(memory) => self.load(
+                site.at,
+                bytes(width),
+                address_of(memory, site.after),
+            ),
             Operand::Imm(number) => self.keep(Constant(*number)),
         }
     }
@@ -78,7 +82,13 @@ impl Builder {
 
     /// Memory gets a value.
     #[tactic(auto, unfolding(crate::specs::Lifted::writes_there))]
-    pub fn write_there(&mut self, site: Site, width: Width, there: There, value: Temp) -> Result<(), NoMemory>
+    pub fn write_there(
+        &mut self,
+        site: Site,
+        width: Width,
+        there: There,
+        value: Temp,
+    ) -> Result<(), NoMemory>
         ensures { OnOk result ((rest : Lifting) → so_far self.old (writes_there site.at site.after width (place_of there) (Kept value.0) rest) ≡ so_far self.new rest) }
     {
         match there {
@@ -113,7 +123,12 @@ impl Builder {
 
     /// A register operand gets a value.
     #[tactic(auto, unfolding(crate::specs::Lifted::puts_operand))]
-    pub fn put_operand<E: Compute>(&mut self, width: Width, to: &Operand, value: E) -> Result<(), NoMemory>
+    pub fn put_operand<E: Compute>(
+        &mut self,
+        width: Width,
+        to: &Operand,
+        value: E,
+    ) -> Result<(), NoMemory>
         ensures { OnOk result ((at after : ℕ) (rest : Lifting) → so_far self.old (puts_operand at after width to.now (E.formula value) rest) ≡ so_far self.new rest) }
     {
         match to {
@@ -124,7 +139,13 @@ impl Builder {
 
     /// An operand gets a value.
     #[tactic(auto, unfolding(crate::specs::Lifted::moves))]
-    pub fn move_to(&mut self, site: Site, width: Width, to: &Operand, value: Temp) -> Result<(), NoMemory>
+    pub fn move_to(
+        &mut self,
+        site: Site,
+        width: Width,
+        to: &Operand,
+        value: Temp,
+    ) -> Result<(), NoMemory>
         ensures { OnOk result ((rest : Lifting) → so_far self.old (moves site.at site.after width to.now (Kept value.0) rest) ≡ so_far self.new rest) }
     {
         let there = self.find(site, to)?;

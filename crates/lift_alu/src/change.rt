@@ -8,7 +8,7 @@ ghost use Rattle.lift_alu.specs.There.{place_of};
 use crate::access::{Site, There};
 use crate::builder::Builder;
 use crate::flags::{CARRY, DifferenceOverflow, SumOverflow};
-use crate::formula::{Constant, FlagNow, Operate};
+use crate::formula::{Constant, FlagNow, Operate, operation};
 use crate::operands::Clean;
 use ev_graph::NoMemory;
 use limm_ir::{IrOp, Temp};
@@ -27,13 +27,18 @@ fn cut<A, B>(width: Width, op: IrOp, first: A, second: B) -> Clean<Operate<A, B>
 {
     Clean {
         width,
-        value: Operate { op, first, second },
+        value: operation(op, first, second),
     }
 }
 
 impl Builder {
     /// Finds and reads an operand that is to be changed.
-    pub fn begin_change(&mut self, site: Site, width: Width, to: &Operand) -> Result<Change, NoMemory>
+    pub fn begin_change(
+        &mut self,
+        site: Site,
+        width: Width,
+        to: &Operand,
+    ) -> Result<Change, NoMemory>
         ensures { IfOk result (λ change. (rest : Place → Formula → Lifting) → so_far self.old (finds site.at site.after to.now (λ there. reads_there site.at site.after width there (rest there))) ≡ so_far self.new (rest (place_of change.there) (Kept change.value.0))) }
     {
         let there = self.find(site, to)?;
@@ -42,22 +47,45 @@ impl Builder {
     }
 
     /// Keeps the result of an operation on two values.
-    pub fn keep_result(&mut self, op: AluOp, width: Width, a: Temp, b: Temp) -> Result<Temp, NoMemory>
+    pub fn keep_result(
+        &mut self,
+        op: AluOp,
+        width: Width,
+        a: Temp,
+        b: Temp,
+    ) -> Result<Temp, NoMemory>
         ensures { IfOk result (λ t. (at after : ℕ) (rest : Formula → Lifting) → so_far self.old (keeps (result_of at after op width (Kept a.0) (Kept b.0)) rest) ≡ so_far self.new (rest (Kept t.0))) }
     {
         match op {
             AluOp::Add => self.keep(cut(width, IrOp::Add, a, b)),
-            AluOp::Or => self.keep(operate(IrOp::Or, a, b)),
-            AluOp::Adc => self.keep(cut(width, IrOp::Add, operate(IrOp::Add, a, b), FlagNow(CARRY))),
-            AluOp::Sbb => self.keep(cut(width, IrOp::Sub, operate(IrOp::Sub, a, b), FlagNow(CARRY))),
-            AluOp::And => self.keep(operate(IrOp::And, a, b)),
+            AluOp::Or => self.keep(operation(IrOp::Or, a, b)),
+            AluOp::Adc => self.keep(cut(
+                width,
+                IrOp::Add,
+                operation(IrOp::Add, a, b),
+                FlagNow(CARRY),
+            )),
+            AluOp::Sbb => self.keep(cut(
+                width,
+                IrOp::Sub,
+                operation(IrOp::Sub, a, b),
+                FlagNow(CARRY),
+            )),
+            AluOp::And => self.keep(operation(IrOp::And, a, b)),
             AluOp::Sub | AluOp::Cmp => self.keep(cut(width, IrOp::Sub, a, b)),
-            AluOp::Xor => self.keep(operate(IrOp::Xor, a, b)),
+            AluOp::Xor => self.keep(operation(IrOp::Xor, a, b)),
         }
     }
 
     /// The flags of an operation on two values, from its result.
-    pub fn set_flags_of(&mut self, op: AluOp, width: Width, a: Temp, b: Temp, value: Temp) -> Result<(), NoMemory>
+    pub fn set_flags_of(
+        &mut self,
+        op: AluOp,
+        width: Width,
+        a: Temp,
+        b: Temp,
+        value: Temp,
+    ) -> Result<(), NoMemory>
         ensures { OnOk result ((at after : ℕ) (rest : Lifting) → so_far self.old (flags_of at after op width (Kept a.0) (Kept b.0) (Kept value.0) rest) ≡ so_far self.new rest) }
     {
         let sum = SumOverflow {
@@ -73,16 +101,43 @@ impl Builder {
             difference: value,
         };
         match op {
-            AluOp::Add => self.set_flags(width, sum, operate(IrOp::LessU, value, a), value),
-            AluOp::Adc => self.set_flags(width, sum, or_carried(value, a, operate(IrOp::LessU, value, a)), value),
-            AluOp::Sbb => self.set_flags(width, difference, or_carried(a, b, operate(IrOp::LessU, a, b)), value),
-            AluOp::Sub | AluOp::Cmp => self.set_flags(width, difference, operate(IrOp::LessU, a, b), value),
-            AluOp::Or | AluOp::And | AluOp::Xor => self.set_flags(width, Constant(0), Constant(0), value),
+            AluOp::Add => self.set_flags(width, sum, operation(IrOp::LessU, value, a), value),
+            AluOp::Adc => self.set_flags(
+                width,
+                sum,
+                or_carried(value, a, operation(IrOp::LessU, value, a)),
+                value,
+            ),
+            AluOp::Sbb => self.set_flags(
+                width,
+                difference,
+                or_carried(a, b, operation(IrOp::LessU, a, b)),
+                value,
+            ),
+            AluOp::Sub | AluOp::Cmp => self.set_flags(
+                width,
+                difference,
+                operation(IrOp::LessU, a, b),
+                value,
+            ),
+            AluOp::Or | AluOp::And | AluOp::Xor => self.set_flags(
+                width,
+                Constant(0),
+                Constant(0),
+                value,
+            ),
         }
     }
 
     /// Two operands are compared, which leaves flags alone.
-    pub fn compare(&mut self, site: Site, op: AluOp, width: Width, to: &Operand, from: &Operand) -> Result<(), NoMemory>
+    pub fn compare(
+        &mut self,
+        site: Site,
+        op: AluOp,
+        width: Width,
+        to: &Operand,
+        from: &Operand,
+    ) -> Result<(), NoMemory>
         ensures { OnOk result (so_far self.old (compares site.at site.after op width to.now from.now) ≡ so_far self.new done) }
     {
         let a = self.fetch(site, width, to)?;
@@ -93,7 +148,14 @@ impl Builder {
     }
 
     /// The first operand becomes the result of an operation on both.
-    pub fn combine(&mut self, site: Site, op: AluOp, width: Width, to: &Operand, from: &Operand) -> Result<(), NoMemory>
+    pub fn combine(
+        &mut self,
+        site: Site,
+        op: AluOp,
+        width: Width,
+        to: &Operand,
+        from: &Operand,
+    ) -> Result<(), NoMemory>
         ensures { OnOk result (so_far self.old (combines site.at site.after op width to.now from.now) ≡ so_far self.new done) }
     {
         let b = self.fetch(site, width, from)?;
@@ -106,7 +168,14 @@ impl Builder {
     }
 
     /// One of the eight operations.
-    pub fn lift_alu(&mut self, site: Site, op: AluOp, width: Width, to: &Operand, from: &Operand) -> Result<(), NoMemory>
+    pub fn lift_alu(
+        &mut self,
+        site: Site,
+        op: AluOp,
+        width: Width,
+        to: &Operand,
+        from: &Operand,
+    ) -> Result<(), NoMemory>
         ensures { OnOk result (so_far self.old (lifts_alu site.at site.after op width to.now from.now) ≡ so_far self.new done) }
     {
         match op {
@@ -122,7 +191,13 @@ impl Builder {
     }
 
     /// Two registers get each the value of the other.
-    pub fn exchange(&mut self, site: Site, width: Width, to: &Operand, from: &Operand) -> Result<(), NoMemory>
+    pub fn exchange(
+        &mut self,
+        site: Site,
+        width: Width,
+        to: &Operand,
+        from: &Operand,
+    ) -> Result<(), NoMemory>
         ensures { OnOk result (so_far self.old (exchanges site.at site.after width to.now from.now) ≡ so_far self.new done) }
     {
         let a = self.fetch(site, width, to)?;
@@ -133,7 +208,13 @@ impl Builder {
     }
 
     /// A register gets the sum of two, and the other what the first was.
-    pub fn add_exchanged(&mut self, site: Site, width: Width, to: &Operand, from: &Operand) -> Result<(), NoMemory>
+    pub fn add_exchanged(
+        &mut self,
+        site: Site,
+        width: Width,
+        to: &Operand,
+        from: &Operand,
+    ) -> Result<(), NoMemory>
         ensures { OnOk result (so_far self.old (adds_exchanged site.at site.after width to.now from.now) ≡ so_far self.new done) }
     {
         let a = self.fetch(site, width, to)?;
@@ -146,20 +227,18 @@ impl Builder {
     }
 }
 
-/// An operation on two values.
-fn operate<A, B>(op: IrOp, first: A, second: B) -> Operate<A, B>
-    ensures { result ≡ record { op = op; first = first; second = second } }
-{
-    Operate { op, first, second }
-}
-
 /// Whether two values are the same and CF is set, or else another condition.
-fn or_carried(first: Temp, second: Temp, or: Operate<Temp, Temp>) -> Operate<Operate<Operate<Temp, Temp>, FlagNow>, Operate<Temp, Temp>>
+fn or_carried(
+    first: Temp,
+    second: Temp,
+    or: Operate<Temp, Temp>,
+) -> Operate<Operate<Operate<Temp, Temp>, FlagNow>, Operate<Temp, Temp>>
     ensures { result ≡ record { op = IrOp.Or; first = record { op = IrOp.And; first = record { op = IrOp.Eq; first = first; second = second }; second = record { 0 = 0 } }; second = or } }
 {
-    Operate {
-        op: IrOp::Or,
-        first: operate(IrOp::And, operate(IrOp::Eq, first, second), FlagNow(CARRY)),
-        second: or,
-    }
+    let carried = operation(
+        IrOp::And,
+        operation(IrOp::Eq, first, second),
+        FlagNow(CARRY),
+    );
+    operation(IrOp::Or, carried, or)
 }

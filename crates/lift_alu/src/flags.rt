@@ -4,15 +4,18 @@ ghost use Rattle.lift_alu.specs.Flags.{sets_result, sets_flags};
 ghost use Rattle.lift_alu.specs.SoFar.{so_far};
 
 use crate::builder::Builder;
-use crate::formula::{Compute, Constant, FlagNow, Operate};
-use crate::operands::{bits, extend};
+use crate::formula::{Compute, Constant, FlagNow, Operate, operation, operation_by};
+use crate::operands::bits;
 use ev_graph::NoMemory;
 use limm_ir::{IrOp, Temp};
 use x64_syntax::Width;
 
 pub(crate) const CARRY: u8 = 0;
+
 pub(crate) const ZERO: u8 = 1;
+
 pub(crate) const SIGN: u8 = 2;
+
 pub(crate) const OVERFLOW: u8 = 3;
 
 /// The highest bit of a value of a width.
@@ -28,7 +31,7 @@ impl<E: Compute> Compute for Top<E> {
     ghost formula = { λ t. top t.width (E.formula t.value) };
 
     fn compute(self, builder: &mut Builder) -> Result<Temp, NoMemory> {
-        extend(IrOp::Shr, self.value, bits(self.width) - 1).compute(builder)
+        operation_by(IrOp::Shr, self.value, bits(self.width) - 1).compute(builder)
     }
 }
 
@@ -48,11 +51,9 @@ impl<B: Compute> Compute for SumOverflow<B> {
     ghost formula = { λ o. sum_overflow o.width (Kept o.first.0) (B.formula o.second) (Kept o.sum.0) };
 
     fn compute(self, builder: &mut Builder) -> Result<Temp, NoMemory> {
-        let value = Operate {
-            op: IrOp::And,
-            first: differing(self.first, self.sum),
-            second: differing(self.second, self.sum),
-        };
+        let first = operation(IrOp::Xor, self.first, self.sum);
+        let second = operation(IrOp::Xor, self.second, self.sum);
+        let value = operation(IrOp::And, first, second);
         let overflow = Top {
             width: self.width,
             value,
@@ -77,27 +78,14 @@ impl<B: Compute> Compute for DifferenceOverflow<B> {
     ghost formula = { λ o. difference_overflow o.width (Kept o.first.0) (B.formula o.second) (Kept o.difference.0) };
 
     fn compute(self, builder: &mut Builder) -> Result<Temp, NoMemory> {
-        let value = Operate {
-            op: IrOp::And,
-            first: differing(self.first, self.second),
-            second: differing(self.first, self.difference),
-        };
+        let first = operation(IrOp::Xor, self.first, self.second);
+        let second = operation(IrOp::Xor, self.first, self.difference);
+        let value = operation(IrOp::And, first, second);
         let overflow = Top {
             width: self.width,
             value,
         };
         overflow.compute(builder)
-    }
-}
-
-/// The bits in which two values differ.
-fn differing<A, B>(first: A, second: B) -> Operate<A, B>
-    ensures { result ≡ record { op = IrOp.Xor; first = first; second = second } }
-{
-    Operate {
-        op: IrOp::Xor,
-        first,
-        second,
     }
 }
 
@@ -118,7 +106,7 @@ impl Compute for Condition {
             let opposite = EvenCondition {
                 code: self.code - 1,
             };
-            extend(IrOp::Xor, opposite, 1).compute(builder)
+            operation_by(IrOp::Xor, opposite, 1).compute(builder)
         } else {
             EvenCondition { code: self.code }.compute(builder)
         }
@@ -137,33 +125,27 @@ impl Compute for EvenCondition {
     ghost formula = { λ c. even_formula c.code };
 
     fn compute(self, builder: &mut Builder) -> Result<Temp, NoMemory> {
-        let less = differing(FlagNow(SIGN), FlagNow(OVERFLOW));
+        let less = operation(IrOp::Xor, FlagNow(SIGN), FlagNow(OVERFLOW));
         match self.code {
             0 => FlagNow(OVERFLOW).compute(builder),
             2 => FlagNow(CARRY).compute(builder),
             4 => FlagNow(ZERO).compute(builder),
-            6 => either(FlagNow(CARRY), FlagNow(ZERO)).compute(builder),
+            6 => operation(IrOp::Or, FlagNow(CARRY), FlagNow(ZERO)).compute(builder),
             8 => FlagNow(SIGN).compute(builder),
             12 => less.compute(builder),
-            _ => either(FlagNow(ZERO), less).compute(builder),
+            _ => operation(IrOp::Or, FlagNow(ZERO), less).compute(builder),
         }
-    }
-}
-
-/// The bits of two values.
-pub(crate) fn either<A, B>(first: A, second: B) -> Operate<A, B>
-    ensures { result ≡ record { op = IrOp.Or; first = first; second = second } }
-{
-    Operate {
-        op: IrOp::Or,
-        first,
-        second,
     }
 }
 
 impl Builder {
     /// OF, ZF and SF, of a result.
-    pub fn set_result<O: Compute>(&mut self, width: Width, overflow: O, value: Temp) -> Result<(), NoMemory>
+    pub fn set_result<O: Compute>(
+        &mut self,
+        width: Width,
+        overflow: O,
+        value: Temp,
+    ) -> Result<(), NoMemory>
         ensures { OnOk result ((rest : Lifting) → so_far self.old (sets_result width (O.formula overflow) (Kept value.0) rest) ≡ so_far self.new rest) }
     {
         let zero = Operate {
@@ -178,7 +160,13 @@ impl Builder {
     }
 
     /// All four flags, CF last, since its formula may read it.
-    pub fn set_flags<O: Compute, C: Compute>(&mut self, width: Width, overflow: O, carry: C, value: Temp) -> Result<(), NoMemory>
+    pub fn set_flags<O: Compute, C: Compute>(
+        &mut self,
+        width: Width,
+        overflow: O,
+        carry: C,
+        value: Temp,
+    ) -> Result<(), NoMemory>
         ensures { OnOk result ((rest : Lifting) → so_far self.old (sets_flags width (O.formula overflow) (C.formula carry) (Kept value.0) rest) ≡ so_far self.new rest) }
     {
         self.set_result(width, overflow, value)?;

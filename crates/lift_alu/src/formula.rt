@@ -97,6 +97,24 @@ impl<A: Compute, B: Compute> Compute for Operate<A, B> {
     }
 }
 
+/// An operation on two values.
+pub(crate) fn operation<A, B>(op: IrOp, first: A, second: B) -> Operate<A, B>
+    ensures { result ≡ record { op = op; first = first; second = second } }
+{
+    Operate { op, first, second }
+}
+
+/// An operation on a value and a number.
+pub(crate) fn operation_by<A>(op: IrOp, first: A, number: u64) -> Operate<A, Constant>
+    ensures { result ≡ record { op = op; first = first; second = record { 0 = number } } }
+{
+    Operate {
+        op,
+        first,
+        second: Constant(number),
+    }
+}
+
 /// One of two values by a condition: the first where it is not 0.
 #[derive(Clone, Copy)]
 pub(crate) struct Choose<C, A, B> {

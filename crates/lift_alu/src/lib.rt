@@ -14,6 +14,8 @@ mod moves;
 mod operands;
 mod small_steps;
 mod stack;
+#[cfg(test)]
+mod tests;
 mod unary;
 
 pub use built::{ends_line, is_built};

@@ -53,7 +53,13 @@ fn upper(width: Width) -> Reg
 
 impl Builder {
     /// MOV.
-    pub fn copy(&mut self, site: Site, width: Width, to: &Operand, from: &Operand) -> Result<(), NoMemory>
+    pub fn copy(
+        &mut self,
+        site: Site,
+        width: Width,
+        to: &Operand,
+        from: &Operand,
+    ) -> Result<(), NoMemory>
         ensures { OnOk result (so_far self.old (lifts site.at site.after (instructions.Mov width to.now from.now)) ≡ so_far self.new done) }
     {
         let value = self.fetch(site, width, from)?;
@@ -63,7 +69,13 @@ impl Builder {
 
     /// LEA: a register gets an address.
     #[tactic(auto, unfolding(crate::specs::Lifted::takes_address, crate::specs::Operands::address_formula))]
-    pub fn take_address(&mut self, site: Site, width: Width, to: &Operand, from: &Operand) -> Result<(), NoMemory>
+    pub fn take_address(
+        &mut self,
+        site: Site,
+        width: Width,
+        to: &Operand,
+        from: &Operand,
+    ) -> Result<(), NoMemory>
         ensures { OnOk result (so_far self.old (takes_address site.at site.after width to.now from.now) ≡ so_far self.new done) }
     {
         match from {
@@ -76,7 +88,14 @@ impl Builder {
     }
 
     /// MOVZX: a register gets a value of a narrower width.
-    pub fn widen_by_zeros(&mut self, site: Site, width: Width, narrow: Width, to: &Operand, from: &Operand) -> Result<(), NoMemory>
+    pub fn widen_by_zeros(
+        &mut self,
+        site: Site,
+        width: Width,
+        narrow: Width,
+        to: &Operand,
+        from: &Operand,
+    ) -> Result<(), NoMemory>
         ensures { OnOk result (so_far self.old (lifts site.at site.after (instructions.MovZx width narrow to.now from.now)) ≡ so_far self.new done) }
     {
         let value = self.fetch(site, narrow, from)?;
@@ -85,7 +104,14 @@ impl Builder {
     }
 
     /// MOVSX: a register gets a value of a narrower width with its sign.
-    pub fn widen_by_sign(&mut self, site: Site, width: Width, narrow: Width, to: &Operand, from: &Operand) -> Result<(), NoMemory>
+    pub fn widen_by_sign(
+        &mut self,
+        site: Site,
+        width: Width,
+        narrow: Width,
+        to: &Operand,
+        from: &Operand,
+    ) -> Result<(), NoMemory>
         ensures { OnOk result (so_far self.old (lifts site.at site.after (instructions.MovSx width narrow to.now from.now)) ≡ so_far self.new done) }
     {
         let value = self.fetch(site, narrow, from)?;
@@ -115,7 +141,12 @@ impl Builder {
     }
 
     /// SETcc: an operand of a byte gets a condition.
-    pub fn set_condition(&mut self, site: Site, condition: Cond, to: &Operand) -> Result<(), NoMemory>
+    pub fn set_condition(
+        &mut self,
+        site: Site,
+        condition: Cond,
+        to: &Operand,
+    ) -> Result<(), NoMemory>
         ensures { OnOk result (so_far self.old (lifts site.at site.after (instructions.SetCc condition to.now)) ≡ so_far self.new done) }
     {
         let value = self.keep(Condition {
@@ -128,7 +159,14 @@ impl Builder {
     /// A register gets a value where a condition holds; of 32 bits the upper half is cleared in both
     /// cases.
     #[tactic(auto, unfolding(crate::specs::Lifted::chooses, crate::specs::Operands::register_formula))]
-    pub fn choose(&mut self, site: Site, code: u8, width: Width, to: &Operand, value: Temp) -> Result<(), NoMemory>
+    pub fn choose(
+        &mut self,
+        site: Site,
+        code: u8,
+        width: Width,
+        to: &Operand,
+        value: Temp,
+    ) -> Result<(), NoMemory>
         ensures { OnOk result (so_far self.old (chooses site.at site.after code width to.now (Kept value.0)) ≡ so_far self.new done) }
     {
         match to {
@@ -145,7 +183,14 @@ impl Builder {
     }
 
     /// CMOVcc.
-    pub fn copy_if(&mut self, site: Site, condition: Cond, width: Width, to: &Operand, from: &Operand) -> Result<(), NoMemory>
+    pub fn copy_if(
+        &mut self,
+        site: Site,
+        condition: Cond,
+        width: Width,
+        to: &Operand,
+        from: &Operand,
+    ) -> Result<(), NoMemory>
         ensures { OnOk result (so_far self.old (lifts site.at site.after (instructions.CmovCc condition width to.now from.now)) ≡ so_far self.new done) }
     {
         let value = self.fetch(site, width, from)?;

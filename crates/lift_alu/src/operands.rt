@@ -5,7 +5,7 @@ ghost use Rattle.x64_table.specs.State.{bytes as bytes_of};
 ghost use Rattle.lift_alu.specs.Operands.{displacement as displacement_of};
 
 use crate::builder::Builder;
-use crate::formula::{Compute, Constant, Operate, RegisterNow};
+use crate::formula::{Compute, Constant, Operate, RegisterNow, operation, operation_by};
 use ev_graph::NoMemory;
 use limm_ir::{IrOp, Temp};
 use x64_syntax::{Mem, Reg, Width};
@@ -49,9 +49,9 @@ impl<E: Compute> Compute for Clean<E> {
     #[tactic(auto, unfolding(crate::specs::Operands::clean))]
     fn compute(self, builder: &mut Builder) -> Result<Temp, NoMemory> {
         match self.width {
-            Width::Byte => extend(IrOp::ZeroExt, self.value, 1).compute(builder),
-            Width::Word => extend(IrOp::ZeroExt, self.value, 2).compute(builder),
-            Width::Long => extend(IrOp::ZeroExt, self.value, 4).compute(builder),
+            Width::Byte => operation_by(IrOp::ZeroExt, self.value, 1).compute(builder),
+            Width::Word => operation_by(IrOp::ZeroExt, self.value, 2).compute(builder),
+            Width::Long => operation_by(IrOp::ZeroExt, self.value, 4).compute(builder),
             Width::Quad => self.value.compute(builder),
         }
     }
@@ -72,22 +72,11 @@ impl<E: Compute> Compute for WithSign<E> {
     #[tactic(auto, unfolding(crate::specs::Operands::with_sign))]
     fn compute(self, builder: &mut Builder) -> Result<Temp, NoMemory> {
         match self.width {
-            Width::Byte => extend(IrOp::SignExt, self.value, 1).compute(builder),
-            Width::Word => extend(IrOp::SignExt, self.value, 2).compute(builder),
-            Width::Long => extend(IrOp::SignExt, self.value, 4).compute(builder),
+            Width::Byte => operation_by(IrOp::SignExt, self.value, 1).compute(builder),
+            Width::Word => operation_by(IrOp::SignExt, self.value, 2).compute(builder),
+            Width::Long => operation_by(IrOp::SignExt, self.value, 4).compute(builder),
             Width::Quad => self.value.compute(builder),
         }
-    }
-}
-
-/// An operation with a number.
-pub(crate) fn extend<E>(op: IrOp, value: E, number: u64) -> Operate<E, Constant>
-    ensures { result ≡ record { op = op; first = value; second = record { 0 = number } } }
-{
-    Operate {
-        op,
-        first: value,
-        second: Constant(number),
     }
 }
 
@@ -104,7 +93,7 @@ impl Compute for FromPart {
     fn compute(self, builder: &mut Builder) -> Result<Temp, NoMemory> {
         let whole = RegisterNow(self.0.number);
         if self.0.high {
-            extend(IrOp::Shr, whole, 8).compute(builder)
+            operation_by(IrOp::Shr, whole, 8).compute(builder)
         } else {
             whole.compute(builder)
         }
@@ -130,7 +119,7 @@ impl<E: Compute> Compute for Merged<E> {
         let old = RegisterNow(self.register.number);
         match self.width {
             Width::Byte if self.register.high => {
-                let moved = extend(IrOp::Shl, self.value, 8);
+                let moved = operation_by(IrOp::Shl, self.value, 8);
                 beside(old, 0xFFFF_FFFF_FFFF_00FF, moved).compute(builder)
             }
             Width::Byte => beside(old, 0xFFFF_FFFF_FFFF_FF00, self.value).compute(builder),
@@ -144,11 +133,7 @@ impl<E: Compute> Compute for Merged<E> {
 fn beside<E>(old: RegisterNow, mask: u64, value: E) -> Operate<Operate<RegisterNow, Constant>, E>
     ensures { result ≡ record { op = IrOp.Or; first = record { op = IrOp.And; first = old; second = record { 0 = mask } }; second = value } }
 {
-    Operate {
-        op: IrOp::Or,
-        first: extend(IrOp::And, old, mask),
-        second: value,
-    }
+    operation(IrOp::Or, operation_by(IrOp::And, old, mask), value)
 }
 
 /// An index times its scale.
@@ -168,9 +153,9 @@ impl Compute for Scaled {
         let index = RegisterNow(self.index);
         match self.scale {
             1 => index.compute(builder),
-            2 => extend(IrOp::Shl, index, 1).compute(builder),
-            4 => extend(IrOp::Shl, index, 2).compute(builder),
-            _ => extend(IrOp::Shl, index, 3).compute(builder),
+            2 => operation_by(IrOp::Shl, index, 1).compute(builder),
+            4 => operation_by(IrOp::Shl, index, 2).compute(builder),
+            _ => operation_by(IrOp::Shl, index, 3).compute(builder),
         }
     }
 }
@@ -192,7 +177,7 @@ impl<E: Compute> Compute for Displaced<E> {
         if self.by == 0 {
             self.value.compute(builder)
         } else {
-            extend(IrOp::Add, self.value, self.by).compute(builder)
+            operation_by(IrOp::Add, self.value, self.by).compute(builder)
         }
     }
 }
@@ -225,11 +210,7 @@ impl Compute for Address {
                 Displaced { value, by }.compute(builder)
             }
             (Some(base), Some(index)) => {
-                let value = Operate {
-                    op: IrOp::Add,
-                    first: RegisterNow(base),
-                    second: Scaled { index, scale },
-                };
+                let value = operation(IrOp::Add, RegisterNow(base), Scaled { index, scale });
                 Displaced { value, by }.compute(builder)
             }
         }

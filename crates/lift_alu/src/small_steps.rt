@@ -7,7 +7,7 @@ use std::alloc::Global;
 use std::marker::Model;
 
 /// A few steps, which take no memory up to 16 of them. Contracts see them as a list.
-#[derive(Drop)]
+#[derive(Debug, Drop)]
 pub struct SmallSteps {
     steps: SmallVec<IrStep, 16>,
 }

@@ -11,6 +11,7 @@ use limm_ir::{IrOp, Temp};
 use x64_syntax::{Operand, Width};
 
 const RSP: u8 = 4;
+
 const RBP: u8 = 5;
 
 impl Builder {

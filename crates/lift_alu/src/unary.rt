@@ -9,8 +9,8 @@ ghost use Rattle.lift_alu.specs.SoFar.{so_far};
 use crate::access::Site;
 use crate::builder::Builder;
 use crate::flags::{DifferenceOverflow, SumOverflow, Top};
-use crate::formula::{Compute, Constant, Operate};
-use crate::operands::{Clean, extend};
+use crate::formula::{Compute, Constant, Operate, operation_by};
+use crate::operands::Clean;
 use ev_graph::NoMemory;
 use limm_ir::{IrOp, Temp};
 use x64_syntax::{Operand, Width};
@@ -43,7 +43,7 @@ impl Compute for Inverted {
     ghost formula = { λ v. Operation ops.Xor (Kept v.value.0) (Number (ones (bits_of v.width))) };
 
     fn compute(self, builder: &mut Builder) -> Result<Temp, NoMemory> {
-        extend(IrOp::Xor, self.value, mask(self.width)).compute(builder)
+        operation_by(IrOp::Xor, self.value, mask(self.width)).compute(builder)
     }
 }
 

@@ -1,0 +1,74 @@
+use crate::{is_built, lift_instr};
+use limm_ir::{IrOp, IrStep, Temp};
+use std::test::Fail;
+use x64_syntax::{AluOp, Flow, Instr, Mem, Operand, Placed, Reg, Width};
+
+/// add dword ptr [rbx + rcx * 4 + 8], eax
+const ADD: Instr = Instr::Alu(
+    AluOp::Add,
+    Width::Long,
+    Operand::Mem(Mem {
+        base: Some(3),
+        index: Some(1),
+        scale: 4,
+        offset: 8,
+        rip: false,
+    }),
+    Operand::Reg(Reg {
+        number: 0,
+        high: false,
+    }),
+    false,
+);
+
+#[test]
+fn adds_to_memory(rt: HostRuntime) -> Result<(), Fail> {
+    let placed = Placed {
+        address: 0x401000,
+        length: 4,
+        instr: ADD,
+        flow: Flow::Plain,
+    };
+    assert_eq!(rt; is_built(&placed.instr), true);
+    let lifted = lift_instr(rt.alloc(), &placed, 0).map_err(|_| "no memory")?;
+    let wanted = [
+        // the value that is added
+        IrStep::GetReg(Temp(0), 0),
+        IrStep::Const(Temp(1), 4),
+        IrStep::Op(IrOp::ZeroExt, Temp(2), Temp(0), Temp(1)),
+        // the address
+        IrStep::GetReg(Temp(3), 3),
+        IrStep::GetReg(Temp(4), 1),
+        IrStep::Const(Temp(5), 2),
+        IrStep::Op(IrOp::Shl, Temp(6), Temp(4), Temp(5)),
+        IrStep::Op(IrOp::Add, Temp(7), Temp(3), Temp(6)),
+        IrStep::Const(Temp(8), 8),
+        IrStep::Op(IrOp::Add, Temp(9), Temp(7), Temp(8)),
+        // the sum
+        IrStep::Load(Temp(10), Temp(9), 4, 0x401000),
+        IrStep::Op(IrOp::Add, Temp(11), Temp(10), Temp(2)),
+        IrStep::Const(Temp(12), 4),
+        IrStep::Op(IrOp::ZeroExt, Temp(13), Temp(11), Temp(12)),
+        IrStep::Store(Temp(9), Temp(13), 4, 0x401000),
+        // OF
+        IrStep::Op(IrOp::Xor, Temp(14), Temp(10), Temp(13)),
+        IrStep::Op(IrOp::Xor, Temp(15), Temp(2), Temp(13)),
+        IrStep::Op(IrOp::And, Temp(16), Temp(14), Temp(15)),
+        IrStep::Const(Temp(17), 31),
+        IrStep::Op(IrOp::Shr, Temp(18), Temp(16), Temp(17)),
+        IrStep::SetFlag(3, Temp(18)),
+        // ZF
+        IrStep::Const(Temp(19), 0),
+        IrStep::Op(IrOp::Eq, Temp(20), Temp(13), Temp(19)),
+        IrStep::SetFlag(1, Temp(20)),
+        // SF
+        IrStep::Const(Temp(21), 31),
+        IrStep::Op(IrOp::Shr, Temp(22), Temp(13), Temp(21)),
+        IrStep::SetFlag(2, Temp(22)),
+        // CF
+        IrStep::Op(IrOp::LessU, Temp(23), Temp(13), Temp(10)),
+        IrStep::SetFlag(0, Temp(23)),
+    ];
+    assert_eq!(rt; lifted.as_slice(), wanted.as_slice());
+    Ok(())
+}
