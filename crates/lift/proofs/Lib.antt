@@ -1,2 +1,3 @@
 mod Meaning
 mod Selectable
+mod Lines

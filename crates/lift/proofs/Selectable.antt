@@ -1,9 +1,9 @@
 -- Steps of instructions one behind the other, each with temporaries of its own, may be selected where those of each may be.
-use Rattle.std.proofs.Common.{◌≡◌, ◌≢◌, ℕ, zero, suc, ◌+◌, ◌*◌, ◌^◌, ◌<◌, ◌≤◌, ◌==◌, Bool, true, false, List, [], ◌∷◌, ◌++◌, length, eqb, refl, sym, ap, ◌∙◌, subst, inl, inr, arith, append_assoc}
-use Rattle.std.specs.Prelude.{◌⊎◌, if◌then◌else◌, slice_index_or, slice_get, Option, Some, None, Contains}
+use Rattle.std.proofs.Common.{◌≡◌, ◌≢◌, ℕ, zero, suc, ◌+◌, ◌*◌, ◌^◌, ◌<◌, ◌≤◌, ◌==◌, Bool, true, false, List, [], ◌∷◌, ◌++◌, length, take, eqb, refl, sym, ap, ◌∙◌, subst, inl, inr, arith, append_assoc}
+use Rattle.std.specs.Prelude.{◌⊎◌, if◌then◌else◌, slice_index_or, Option, Some, None, Contains}
 use Rattle.std.specs.List.{AllByRecursion, IsDistinct}
 use Rattle.std.proofs.lemmas.Bool.Decides.{nat_tests}
-use Rattle.std.proofs.lemmas.List.{append-nil}
+use Rattle.std.proofs.lemmas.List.{append-nil, take_more, length-take-le}
 use Rattle.ev_graph.specs.declared.events.TrapKind.TheVariants.{BadAccess}
 use Rattle.x64_syntax.specs.declared.placed.Placed.{Placed}
 use Rattle.limm_ir.specs.declared.block.IrEnd.{IrEnd}
@@ -355,17 +355,23 @@ steps_snoc (p ∷ ps) q temps xs ys (here, later, same, first, rest) one =
     (here, later ++ ys, ap (λ l. l ++ ys) same ∙ append_assoc here later ys, first, steps_snoc ps q (temps + 256) later ys rest (subst (λ b. AreStepsOf q b ys) base one))
 
 -- the block ends as its last instruction
-pub ends_as_last : (ps : List Placed) (temps k : ℕ) (q : Placed) → slice_get ps k ≡ Some q → suc k ≡ length ps → end_from temps ps ≡ end_of q (temps + 256 * k)
+pub ends_as_last : (ps : List Placed) (temps k : ℕ) (q : Placed) → slice_index_or ps k q ≡ q → suc k ≡ length ps → end_from temps ps ≡ end_of q (temps + 256 * k)
 ends_as_last [] temps k q there long = absurd (omega (arith, long))
 ends_as_last (p ∷ []) temps k q there long =
     let none : k ≡ 0 = omega (arith, long) in
-    let same : p ≡ q = some_is (subst (λ j. slice_get (p ∷ []) j ≡ Some q) none there) in
+    let same : p ≡ q = subst (λ j. slice_index_or (p ∷ []) j q ≡ q) none there in
     let base : temps ≡ temps + 256 * k = omega (arith, none) in
     ap (λ r. end_of r temps) same ∙ ap (end_of q) base
-  where
-    some_is : {a b : Placed} → Some a ≡ Some b → a ≡ b
-    some_is e = cc
 ends_as_last (p ∷ r ∷ ps) temps zero q there long = absurd (omega (arith, long))
 ends_as_last (p ∷ r ∷ ps) temps (suc k) q there long =
     let base : temps + 256 + 256 * k ≡ temps + 256 * suc k = omega arith in
     ends_as_last (r ∷ ps) (temps + 256) k q there (omega (arith, long)) ∙ ap (end_of q) base
+
+-- the steps of one instruction more of the line
+pub steps_next : (ps : List Placed) (k temps : ℕ) (d : Placed) (xs ys zs : List IrStep) → k < length ps → temps ≡ 256 * k → AreStepsFrom 0 (take k ps) xs
+    → AreStepsOf (slice_index_or ps k d) temps ys → zs ≡ xs ++ ys → AreStepsFrom 0 (take (k + 1) ps) zs
+steps_next ps k temps d xs ys zs low numbered before one more =
+    let long : length (take k ps) ≡ k = length-take-le k ps (omega (arith, low)) in
+    let base : temps ≡ 0 + 256 * length (take k ps) = omega (arith, numbered, long) in
+    subst (λ l. AreStepsFrom 0 l zs) (sym (take_more ps k d low))
+    (subst (AreStepsFrom 0 (take k ps ++ slice_index_or ps k d ∷ [])) (sym more) (steps_snoc (take k ps) (slice_index_or ps k d) 0 xs ys before (subst (λ b. AreStepsOf (slice_index_or ps k d) b ys) base one)))

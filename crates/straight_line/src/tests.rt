@@ -1,6 +1,9 @@
 ghost use Rattle.std.specs.Prelude.{◌≤◌, length, IfOk};
 ghost use Rattle.gen_input.specs.BuiltFile.{IsShort};
 
+mod forms;
+mod runs;
+
 use crate::translate_line;
 use elf_format::Symbol;
 use elf_read::read_elf;
@@ -35,21 +38,33 @@ fn translates_each_instruction(rt: HostRuntime) -> Result<(), Fail> {
     for line in &lines {
         words.extend_from_slice(&translate_line(alloc, line.first, line.placed.as_slice())?)?;
     }
-    let wanted: [u32; 17] = [
-        0xD288_0007, // movz x7, #0x4000
-        0xF2A0_0807, // movk x7, #0x40, lsl #16
-        0xF940_00E0, // ldr x0, [x7]
+    let wanted: [u32; 29] = [
+        0xD288_0010, // mov x16, #0x4000
+        0xF2A0_0810, // movk x16, #0x40, lsl #16
+        0xAA10_03E7, // mov x7, x16
+        0xAA07_03F0, // mov x16, x7
+        0xF940_0210, // ldr x16, [x16]
         0xD503_39BF, // dmb ishld
+        0xAA10_03E0, // mov x0, x16
         0xD503_3BBF, // dmb ish
+        0xAA00_03F0, // mov x16, x0
+        0xAA07_03F1, // mov x17, x7
         0xD503_3ABF, // dmb ishst
-        0xF900_00E0, // str x0, [x7]
-        0xAA02_03E1, // mov x1, x2
-        0xD28E_F100, // movz x0, #0x7788
-        0xF2C6_6880, // movk x0, #0x3344, lsl #32
-        0xF2E2_2440, // movk x0, #0x1122, lsl #48
-        0xF940_0090, // ldr x16, [x4]
+        0xF900_0230, // str x16, [x17]
+        0xAA02_03F0, // mov x16, x2
+        0xAA10_03E1, // mov x1, x16
+        0xD28E_F110, // mov x16, #0x7788
+        0xF2C6_6890, // movk x16, #0x3344, lsl #32
+        0xF2E2_2450, // movk x16, #0x1122, lsl #48
+        0xAA10_03E0, // mov x0, x16
+        0xAA04_03F0, // mov x16, x4
+        0xF940_0210, // ldr x16, [x16]
         0xD503_39BF, // dmb ishld
-        0x9100_2084, // add x4, x4, #8
+        0xAA04_03F1, // mov x17, x4
+        0xD280_0117, // mov x23, #8
+        0x8B17_0231, // add x17, x17, x23
+        0xAA11_03E4, // mov x4, x17
+        0xAA10_03F0, // mov x16, x16
         0xB400_0050, // cbz x16, .+8
         0xD420_0060, // brk #3
         0xD400_0061, // svc #3
