@@ -2,7 +2,7 @@
 use Rattle.std.proofs.Common.{◌≡◌, ◌≢◌, ℕ, ◌+◌, ◌*◌, ◌%◌, ◌^◌, ◌<◌, ◌≤◌, ◌==◌, Bool, true, false, List, [], ◌∷◌, ◌++◌, length, refl, sym, ap, ◌∙◌, subst, arith, eqb-true}
 use Rattle.std.specs.Prelude.{if◌then◌else◌, pos, bit_or}
 use Rattle.std.specs.List.{AllByRecursion}
-use Rattle.std.proofs.lemmas.Bits.{or_zero_l}
+use Rattle.std.specs.Int.Bits.{or_zero_l}
 use Rattle.ev_graph.specs.declared.events.End.TheVariants.{Halted}
 use Rattle.ev_graph.specs.declared.events.TrapKind.{TrapKind}
 use Rattle.ev_graph.specs.declared.events.TrapKind.TheVariants.{Divide, Invalid, BadReturn, BadJump, BadAccess}
@@ -62,20 +62,20 @@ module _ (may : Permission) (at stop : ℕ) (s : AState) where
   return_beside r true e =
       let moved : low true (value xregs (behind_copy r) (x 16)) ≡ value xregs s r % 2 ^ 64 = ap (low true) (copied (value xregs s r)) ∙ omega arith in
       let test : (low true (value xregs (behind_copy r) (x 16)) == 0) ≡ true = ap (λ k. k == 0) moved ∙ e in
-      rw (e, test) (spend {less = 2} (omega arith) (spend {less = 1} (omega arith) (spend {less = 0} (omega arith) (give both-stop))))
+      rw (e, test) (spend {less = 2} {more = 3} (omega arith) (spend {less = 1} {more = 2} (omega arith) (spend {less = 0} {more = 1} (omega arith) (give both-stop))))
   return_beside r false e =
       let moved : low true (value xregs (behind_copy r) (x 16)) ≡ value xregs s r % 2 ^ 64 = ap (low true) (copied (value xregs s r)) ∙ omega arith in
       let test : (low true (value xregs (behind_copy r) (x 16)) == 0) ≡ false = ap (λ k. k == 0) moved ∙ e in
-      rw (e, test) (spend {less = 2} (omega arith) (spend {less = 1} (omega arith) (spend {less = 0} (omega arith) (give both-stop))))
+      rw (e, test) (spend {less = 2} {more = 3} (omega arith) (spend {less = 1} {more = 2} (omega arith) (spend {less = 0} {more = 1} (omega arith) (give both-stop))))
 
   -- the ending does what the end does
   ends_beside : (fin : AEnd XReg) → EndsLine fin
       → Beside lowered 1 (SameNext Never) 3 (a64_end xregs fin s then finish {T = AThread}) (a64_words xregs may at (ending fin) 0 s then lands stop)
   ends_beside (ends.Return r) line = return_beside r (value xregs s r % 2 ^ 64 == 0) refl
-  ends_beside (ends.Stop Divide) line = spend {less = 2} (omega arith) (give both-stop)
-  ends_beside (ends.Stop Invalid) line = spend {less = 2} (omega arith) (give both-stop)
-  ends_beside (ends.Stop BadReturn) line = spend {less = 2} (omega arith) (give both-stop)
-  ends_beside (ends.Stop BadJump) line = spend {less = 2} (omega arith) (give both-stop)
+  ends_beside (ends.Stop Divide) line = spend {less = 2} {more = 3} (omega arith) (give both-stop)
+  ends_beside (ends.Stop Invalid) line = spend {less = 2} {more = 3} (omega arith) (give both-stop)
+  ends_beside (ends.Stop BadReturn) line = spend {less = 2} {more = 3} (omega arith) (give both-stop)
+  ends_beside (ends.Stop BadJump) line = spend {less = 2} {more = 3} (omega arith) (give both-stop)
   ends_beside (ends.Stop BadAccess) line = absurd (line refl)
   ends_beside (ends.Goto a) line = elim line [ ]
   ends_beside (ends.Branch r a b) line = elim line [ ]

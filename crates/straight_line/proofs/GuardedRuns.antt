@@ -55,18 +55,15 @@ stops_guarded : {R : Type 0} (r : R) → AllGuarded (Gives r)
 stops_guarded r w is p n cut = tt
 stops_guarded r w is p n gives = tt
 
+acts_guarded : {R : Type 0} (range : ℕ) (made : ℕ → List Item) (next : ℕ → Tree R) → ((v : ℕ) → IsQuiet (made v)) → ((v : ℕ) → AllGuarded (next v)) → AllGuarded (Acts range made next)
+acts_guarded range made next quiet later w is p n cut = tt
+acts_guarded range made next quiet later w is p n (acts {items = more} v lt path) = quiet v w more (later v w more p n path)
+
 quiet_then : {S T : Type 0} (t : Tree (Next S)) (f : S → Tree (Next T)) → Quiet t → ((s : S) → AllGuarded (f s)) → AllGuarded (t then f)
 quiet_then (Gives (Goes s)) f quiet rest = rest s
 quiet_then (Gives (Stops end)) f quiet rest = stops_guarded (Stops end)
 quiet_then (Begins t) f quiet rest = quiet_begins (t then f) (quiet_then t f quiet rest)
-quiet_then (Acts range made next) f quiet rest = acts_guarded
-  where
-    later : (v : ℕ) → AllGuarded (next v then f)
-    later v = quiet_then (next v) f (quiet v).1 rest
-
-    acts_guarded : AllGuarded (Acts range made (λ v. next v then f))
-    acts_guarded w is p n cut = tt
-    acts_guarded w is p n (acts {items = more} v lt path) = (quiet v).0 w more (later v w more p n path)
+quiet_then (Acts range made next) f quiet rest = acts_guarded range made (λ v. next v then f) (λ v. (quiet v).0) (λ v. quiet_then (next v) f (quiet v).1 rest)
 
 -- a fence alone
 fence_guarded : {R : Type 0} (kind : FenceKind) (t : Tree R) → AllGuarded t → AllGuarded (Acts 1 (λ v. items.Fence (record { kind = kind; place = 0 }) ∷ []) (λ v. t))

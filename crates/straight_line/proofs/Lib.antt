@@ -5,3 +5,5 @@ pub mod Passes
 pub mod Endings
 pub mod GuardedRuns
 pub mod LineCarried
+pub mod Straight
+pub mod Translates

@@ -13,7 +13,7 @@ use Rattle.behavior.specs.Acts.{Permission, traps}
 use Rattle.behavior.specs.Leaving.{Target, ToBlock, ToReturn, ToEntry, Left, SameLeft}
 use Rattle.behavior.specs.Run.{Run}
 use Rattle.behavior.specs.Seen.{full, lowered, trace}
-use Rattle.behavior.specs.Kept.{SamePoint, both-at, SameNext, both-go, both-stop, Keeps}
+use Rattle.behavior.specs.Kept.{SamePoint, both-at, SameNext, both-go, both-stop, Keeps, Through}
 use Rattle.behavior.proofs.Paths.{then-assoc}
 use Rattle.behavior.proofs.SeenLemmas.{sees-full, sees-lowered, lowered-to_full, full-to_trace}
 use Rattle.behavior.proofs.Beside.{Beside, give, beside_keeps}
@@ -131,7 +131,7 @@ left_alike a b (same, fit, is) =
 module _ (first entry : ℕ) (line : List Placed) (ws : List (A64 XReg)) (fin : AEnd XReg) (stands : first_of line ≡ first) (translated : AllByRecursion IsTranslated line)
     (passes : Passes line ws fin) (layable : IsLayable ws fin) (ending_is : EndsLine fin) where
   threads_next : (a : Next Thread) (c : Next AThread) → Through (SameNext (Never {S = Thread} {T = AThread})) (SameNext (Never {S = AThread} {T = AThread})) a c → SameNext (Starts first entry) a c
-  threads_next a c (b, one, two) = next_wider (λ s t never. absurd never.1.0) a c (next_through a c (b, one, two))
+  threads_next a c (b, one, two) = next_wider (λ s t never. absurd never.1) a c (next_through a c (b, one, two))
 
   pub threads_keep : (may : Permission) (s : Thread) (t : AThread) → Starts first entry s t → Keeps full 62 3 (SameNext (Starts first entry)) (line_tree may line s) (code_tree may entry ws fin t.state)
   threads_keep may s t starts =
@@ -297,7 +297,7 @@ all_append P (x ∷ xs) ys one two = (one.0, all_append P xs ys one.1 two)
 
 ending_encodable : (fin : AEnd XReg) → EndsLine fin → AllByRecursion IsRegister (end_operands fin) → AllByRecursion IsEncodable (ending fin)
 ending_encodable (ends.Return r) line registers =
-    (((omega arith, λ e. absurd (omega (arith, e))), (inr refl, (inl registers.0, (omega arith, omega arith)))), (((omega arith, λ e. absurd (omega (arith, e))), (grind (arith, ints), grind (arith, ints))), ((omega arith, omega arith), ((omega arith, omega arith), tt))))
+    (((omega arith, λ e. absurd (omega (arith, e))), inr refl, inl registers.0, (omega arith, omega arith)), (((omega arith, λ e. absurd (omega (arith, e))), (grind (arith, ints), grind (arith, ints))), ((omega arith, omega arith), ((omega arith, omega arith), tt))))
 ending_encodable (ends.Stop Divide) line registers = ((omega arith, omega arith), tt)
 ending_encodable (ends.Stop Invalid) line registers = ((omega arith, omega arith), tt)
 ending_encodable (ends.Stop BadReturn) line registers = ((omega arith, omega arith), tt)

@@ -1,5 +1,5 @@
 -- The passes one behind the other: a line and its words over registers leave alike.
-use Rattle.std.proofs.Common.{◌≡◌, ℕ, ◌+◌, ◌-◌, ◌*◌, ◌^◌, ◌<◌, ◌==◌, Bool, true, false, List, [], ◌∷◌, refl, sym, ap, ◌∙◌, subst, arith}
+use Rattle.std.proofs.Common.{◌≡◌, ℕ, zero, suc, ◌+◌, ◌-◌, ◌*◌, ◌^◌, ◌<◌, ◌==◌, Bool, true, false, List, [], ◌∷◌, refl, sym, ap, ◌∙◌, subst, arith}
 use Rattle.std.specs.Prelude.{if◌then◌else◌, nat_lt}
 use Rattle.std.specs.List.{AllByRecursion}
 use Rattle.std.proofs.lemmas.Bool.Decides.{nat_tests}
@@ -95,10 +95,10 @@ pub same_numbered : (t : AState) → ((n : ℕ) → t.regs n < 2 ^ 64) → SameN
 same_numbered t fit = record { regs = λ r lt. refl; flags = λ f lt. refl; fit = λ n. fit_number t fit n }
 
 four_flags : (f : Flags) (t : AState) → t.regs 19 ≡ bit f.cf → t.regs 20 ≡ bit f.zf → t.regs 21 ≡ bit f.sf → t.regs 22 ≡ bit f.of → (k : ℕ) → k < 4 → (numbers_of t).regs (16 + k) ≡ flag_bank f k
-four_flags f t cf zf sf of 0 lt = cf
-four_flags f t cf zf sf of 1 lt = zf
-four_flags f t cf zf sf of 2 lt = sf
-four_flags f t cf zf sf of 3 lt = of
+four_flags f t cf zf sf of zero lt = cf
+four_flags f t cf zf sf of (suc zero) lt = zf
+four_flags f t cf zf sf of (suc (suc zero)) lt = sf
+four_flags f t cf zf sf of (suc (suc (suc zero))) lt = of
 four_flags f t cf zf sf of (suc (suc (suc (suc k)))) lt = absurd (omega (arith, lt))
 
 start_numbered : (first entry : ℕ) (s : Thread) (t : AThread) → Starts first entry s t → SameNumbered (steps_state s) (numbers_of t.state)

@@ -26,7 +26,7 @@ abbrev pub ending : AEnd XReg → List (A64 XReg)
 ending (ends.Return r) = words.Orr true (x 16) (x 31) r 0 0 ∷ words.Cbz true (x 16) (pos 2) ∷ words.Brk 3 ∷ words.Svc 3 ∷ []
 ending (ends.Stop kind) = words.Brk (break_of kind) ∷ []
 ending (ends.Goto address) = words.Brk 4 ∷ []
-ending (ends.Branch r yes no) = words.Brk 4 ∷ []
+ending (ends.Branch r taken other) = words.Brk 4 ∷ []
 ending (ends.Indexed r table) = words.Brk 4 ∷ []
 
 -- the ends that lines have

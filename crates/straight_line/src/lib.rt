@@ -3,10 +3,10 @@
 //! Source: backward and forward simulation of compilers (Leroy, CACM 52(7), 2009), pass by pass.
 #![tactic(auto)]
 
-// mod layout;
-// mod translate;
+mod layout;
+mod translate;
 
-// pub use translate::translate_line;
+pub use translate::translate_line;
 
-// cfg
-// mod tests;
+#[cfg(test)]
+mod tests;

@@ -1,4 +1,4 @@
-ghost use Rattle.std.specs.Prelude.{◌+◌, ◌*◌, ◌^◌, ◌<◌, ◌≤◌, ℕ, List, ◌++◌, IfOk, length};
+ghost use Rattle.std.specs.Prelude.{◌≡◌, [], ◌+◌, ◌*◌, ◌^◌, ◌<◌, ◌≤◌, ℕ, List, ◌++◌, IfOk, length};
 ghost use Rattle.line_read.specs.Line.{IsStraight};
 ghost use Rattle.straight_line.specs.Carried.{CarriesLine};
 
@@ -27,7 +27,9 @@ pub fn translate_line(alloc: Global, first: u64, line: &[Placed]) -> Result<Vec<
 }
 
 /// No slot is private.
-fn no_marks(alloc: Global) -> Marks {
+fn no_marks(alloc: Global) -> Marks
+    ensures { result.slots ≡ [] }
+{
     Marks {
         slots: List::of(Vec::new(alloc)),
     }
