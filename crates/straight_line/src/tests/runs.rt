@@ -214,13 +214,14 @@ fn program_of(alloc: Global, code: &[u8]) -> Result<Elf, Fail> {
 }
 
 /// The words of the one line of a program, of which there are at most 64 for each instruction.
-fn words_of(rt: HostRuntime, elf: &Elf) -> Result<Vec<u32>, Fail> {
-    let alloc = rt.alloc();
+fn words_of(alloc: Global, elf: &Elf) -> Result<Vec<u32>, Fail> {
     let lines = read_lines(alloc, elf).map_err(|_| "not read")?;
     let mut words = Vec::new(alloc);
     for line in &lines {
         words.extend_from_slice(&translate_line(alloc, line.first, line.placed.as_slice())?)?;
-        assert!(rt; words.len() <= 64 * line.placed.as_slice().len());
+        if words.len() > 64 * line.placed.as_slice().len() {
+            return Err("too many words".into());
+        }
     }
     Ok(words)
 }
@@ -232,7 +233,7 @@ fn words_do_what_each_form_does(rt: HostRuntime) -> Result<(), Fail> {
         let mut code = Vec::from_slice(alloc, form)?;
         code.push(0xC3)?;
         let elf = program_of(alloc, &code)?;
-        let words = words_of(rt, &elf)?;
+        let words = words_of(alloc, &elf)?;
         for (registers, flags) in REGISTERS.iter().zip(FLAGS.iter()) {
             let start = X64State {
                 regs: *registers,
@@ -241,10 +242,10 @@ fn words_do_what_each_form_does(rt: HostRuntime) -> Result<(), Fail> {
             };
             let wanted = run_line(alloc, &elf, &code, start)?;
             let found = run_words(alloc, &elf, &words, arm_start(registers, *flags))?;
-            assert_eq!(rt; found.seen.as_slice(), wanted.seen.as_slice(), "{form:x?}");
-            assert_eq!(rt; found.registers, wanted.registers, "{form:x?}");
-            assert_eq!(rt; found.flags, wanted.flags, "{form:x?}");
-            assert_eq!(rt; found.end, wanted.end, "{form:x?}");
+            assert_eq!(rt; found.seen.as_slice(), wanted.seen.as_slice(), "{form:?}");
+            assert_eq!(rt; found.registers, wanted.registers, "{form:?}");
+            assert_eq!(rt; found.flags, wanted.flags, "{form:?}");
+            assert_eq!(rt; found.end, wanted.end, "{form:?}");
         }
     }
     Ok(())
