@@ -1,5 +1,5 @@
 -- The values of the formulas of results, flags and conditions.
-use Rattle.std.proofs.Common.{◌≡◌, ◌≢◌, ℕ, ◌+◌, ◌-◌, ◌/◌, ◌%◌, ◌^◌, ◌<◌, Bool, true, false, arith, refl, ap, sym, ◌∙◌, lit<}
+use Rattle.std.proofs.Common.{◌≡◌, ℕ, ◌+◌, ◌-◌, ◌/◌, ◌%◌, ◌^◌, ◌<◌, Bool, true, false, arith, refl, ap, sym, ◌∙◌, lit<}
 use Rattle.std.specs.Prelude.{bit_and, bit_or, bit_xor, nat_lt, nat_le, ◌==◌, not, ◌&&◌, ◌||◌, if◌then◌else◌}
 use Rattle.std.specs.Int.Bits.{and_lt, xor_zero_l}
 use Rattle.std.proofs.lemmas.Bool.Decides.{nat_tests}

@@ -19,7 +19,7 @@ use Rattle.x64_table.specs.State.{Thread, lowest, register, merged, part, addres
 use Rattle.limm_ir.specs.Steps.{IrState}
 use Rattle.limm_ir.specs.declared.step.IrOp.TheVariants as ops
 use Rattle.lift_alu.specs.Formulas.{Formula, Number, Register, Operation, value}
-use Rattle.lift_alu.specs.Operands.{clean, with_sign, shifted_down, register_formula, byte_into, merged_formula, shift_of, scaled, base_part, with_index, with_displacement, displacement, address_formula}
+use Rattle.lift_alu.specs.Operands.{clean, with_sign, shifted_down, register_formula, byte_into, merged_formula, scaled, base_part, with_index, with_displacement, displacement, address_formula}
 use Rattle.lift_alu.specs.Meant.{SameThread}
 
 -- the low bits of a value

@@ -1,5 +1,5 @@
 -- Widths as numbers of bits, and the arithmetic of their words that formulas compute.
-use Rattle.std.proofs.Common.{◌≡◌, ℕ, ◌+◌, ◌-◌, ◌%◌, ◌^◌, ◌<◌, ◌≤◌, Bool, true, false, arith, refl, ap, sym, ◌∙◌, inl, inr, of_z, w64}
+use Rattle.std.proofs.Common.{◌≡◌, ℕ, ◌+◌, ◌-◌, ◌%◌, ◌^◌, ◌<◌, Bool, true, false, arith, refl, ap, sym, ◌∙◌, inl, inr, of_z, w64}
 use Rattle.std.specs.Prelude.{suc, ℤ, pos, negsuc, ◌+ℤ◌, FitsSigned, nat_le, nat_lt, ◌==◌, ◌&&◌, ◌||◌, bit_and, bit_or}
 use Rattle.std.proofs.lemmas.Bool.Decides.{nat_tests}
 use Rattle.std.proofs.lemmas.Int.{ints}

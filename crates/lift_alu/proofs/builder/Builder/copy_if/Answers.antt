@@ -1,5 +1,4 @@
 use Rattle.std.proofs.Common.{◌∙◌}
-use Rattle.lift_alu.specs.Formulas.{done}
 use Rattle.lift_alu.specs.Lifted.{lifts}
 use Rattle.lift_alu.proofs.builder.Builder.copy_if.Goals as goal
 

@@ -1,5 +1,3 @@
-use Rattle.std.proofs.Common.{◌∙◌}
-use Rattle.lift_alu.specs.Formulas.{done}
 use Rattle.lift_alu.specs.Lifted.{lifts}
 use Rattle.lift_alu.proofs.builder.Builder.pop_return.Goals as goal
 
