@@ -1,7 +1,7 @@
 -- What is known of all results of a tree, and a tree beside itself before what is side by side.
-use Rattle.std.proofs.Common.{◌≡◌, ℕ, ◌+◌, ◌<◌, ◌≤◌, List, refl, subst, arith}
+use Rattle.std.proofs.Common.{◌≡◌, ℕ, ◌+◌, ◌≤◌, List, refl, subst, arith}
 use Rattle.ev_graph.specs.declared.events.Item.{Item}
-use Rattle.behavior.specs.Tree.{Tree, Gives, Begins, Acts, Point, Cut, At, Path, gives, begins, acts, Next, Goes, Stops, ◌then◌}
+use Rattle.behavior.specs.Tree.{Tree, Gives, Begins, Acts, Point, At, Path, gives, begins, acts, Next, Goes, Stops, ◌then◌}
 use Rattle.behavior.specs.Kept.{SamePoint, both-cut, both-at, SameNext, both-go, both-stop, Keeps}
 use Rattle.behavior.proofs.Beside.{Beside, give, earn, spend, act}
 use Rattle.behavior.proofs.Unfolding.{AllResults}
@@ -50,8 +50,7 @@ module _ (seen : List Item → List Item) (rate extra : ℕ) {S T : Type 0} (Sam
   pub keeps_known : {p : Tree (Next S)} {q : Tree (Next T)} → AllResults P p → AllResults Q q → Keeps seen rate extra (SameNext Same) p q → Keeps seen rate extra (SameNext Known) p q
   keeps_known {p} {q} sources targets keeps = record {
     forth = λ from i n path.
-        let one = keeps.forth from i n path in
-        (
+        let one = keeps.forth from i n path in (
           one.0,
           one.1,
           one.2,
@@ -61,8 +60,7 @@ module _ (seen : List Item → List Item) (rate extra : ℕ) {S T : Type 0} (Sam
           one.6,
         );
     back = λ to o m path.
-        let one = keeps.back to o m path in
-        (
+        let one = keeps.back to o m path in (
           one.0,
           one.1,
           one.2,

@@ -9,9 +9,9 @@ use std::test::Fail;
 const LEAST_LINE: &[u8] =
     b"translated 1 threads, 1 instructions, 1 blocks, 1 accesses, 0 private, 1 frm, 0 fww, 0 fsc\n";
 
-/// Parts of the least file's image: the program headers, of 401000 with flag R, of 404000 with R and W, and of six
-/// words of code at 410000 with X alone; and the words: ldr x16, [x4]; dmb ishld; add x4, x4, #8;
-/// cbz x16, +2; brk #3; svc #3.
+/// Parts of the least file's image: the program headers, of 401000 with flag R, of 404000 with R and W, and of eleven
+/// words of code at 410000 with X alone; and the words: mov x16, x4; ldr x16, [x16]; dmb ishld; mov x17, x4;
+/// mov x23, #8; add x17, x17, x23; mov x4, x17; mov x16, x16; cbz x16, +2; brk #3; svc #3.
 const IMAGE: [(usize, &[u8]); 4] = [
     (
         64,
@@ -23,11 +23,11 @@ const IMAGE: [(usize, &[u8]); 4] = [
     ),
     (
         176,
-        b"\x01\0\0\0\x01\0\0\0\0\x30\0\0\0\0\0\0\0\0\x41\0\0\0\0\0\0\0\x41\0\0\0\0\0\x18\0\0\0\0\0\0\0\x18\0\0\0\0\0\0\0\0\x10\0\0\0\0\0\0",
+        b"\x01\0\0\0\x01\0\0\0\0\x30\0\0\0\0\0\0\0\0\x41\0\0\0\0\0\0\0\x41\0\0\0\0\0\x2C\0\0\0\0\0\0\0\x2C\0\0\0\0\0\0\0\0\x10\0\0\0\0\0\0",
     ),
     (
         0x3000,
-        b"\x90\0\x40\xF9\xBF\x39\x03\xD5\x84\x20\0\x91\x50\0\0\xB4\x60\0\x20\xD4\x61\0\0\xD4",
+        b"\xF0\x03\x04\xAA\x10\x02\x40\xF9\xBF\x39\x03\xD5\xF1\x03\x04\xAA\x17\x01\x80\xD2\x31\x02\x17\x8B\xE4\x03\x11\xAA\xF0\x03\x10\xAA\x50\0\0\xB4\x60\0\x20\xD4\x61\0\0\xD4",
     ),
 ];
 
@@ -133,7 +133,17 @@ const FENCED: &[u8] =
 #[test]
 fn lines_are_translated(rt: HostRuntime) -> Result<(), Fail> {
     let alloc = rt.alloc();
-    let cases: [(&[u8], &[(&str, u64)], &[u8]); 3] = [
+    let cases: [(&[u8], &[(&str, u64)], &[u8]); 5] = [
+        (
+            b"\xBF\0\x40\x40\0\xB8\xFF\xFF\xFF\xFF\x48\x01\x07\x0F\x92\x47\x08\xC3",
+            &[("thread_0", 0x401000)],
+            b"translated 1 threads, 5 instructions, 1 blocks, 4 accesses, 0 private, 2 frm, 2 fww, 0 fsc\n",
+        ),
+        (
+            b"\x0F\x0B",
+            &[("thread_0", 0x401000)],
+            b"translated 1 threads, 1 instructions, 1 blocks, 0 accesses, 0 private, 0 frm, 0 fww, 0 fsc\n",
+        ),
         (
             b"\xBF\0\x40\x40\0\x48\x8B\x07\x48\x89\x07\xC3",
             &[("thread_0", 0x401000)],
@@ -199,7 +209,7 @@ fn other_files_are_refused(rt: HostRuntime) -> Result<(), Fail> {
     let cases: [(&[u8], &[(&str, u64)], &[u8]); 8] = [
         (b"\xFF\xE0", one, b"refused UnbuiltCode 401000\n"),
         (
-            b"\x48\x89\xD1\x90\xC3",
+            b"\x48\x89\xD1\xF7\xE1\xC3",
             one,
             b"refused UnbuiltCode 401003\n",
         ),

@@ -1,5 +1,5 @@
 -- Steps in two parts, and steps whose instructions are counted or not.
-use Rattle.std.proofs.Common.{◌≡◌, ℕ, zero, suc, ◌+◌, ◌*◌, ◌≤◌, List, [], ◌∷◌, ◌++◌, refl, sym, ap, ◌∙◌, subst, arith}
+use Rattle.std.proofs.Common.{◌≡◌, ℕ, suc, ◌+◌, ◌*◌, ◌≤◌, List, [], ◌∷◌, ◌++◌, refl, sym, ap, ◌∙◌, arith}
 use mathlib.Core.Path.{fun_ext}
 use Rattle.std.proofs.Math.Nat.{mul-suc}
 use Rattle.ev_graph.specs.declared.events.Item.{Item}
@@ -7,14 +7,13 @@ use Rattle.ev_graph.specs.declared.events.End.{End}
 use Rattle.behavior.specs.Tree.{Tree, Begins, Point, Cut, At, Path, cut, begins, Next, Goes, Stops, ◌then◌, ticks}
 use Rattle.behavior.specs.Acts.{Permission}
 use Rattle.behavior.specs.Kept.{SamePoint, both-cut, Keeps}
-use Rattle.behavior.specs.Leaving.{ToBlock, Left}
+use Rattle.behavior.specs.Leaving.{Left}
 use Rattle.behavior.proofs.Paths.{then-assoc, path_at, path_cut, path_stop, path_then, Split, within, ended, beyond, split}
-use Rattle.behavior.proofs.Ticks.{ticks-then, path_ticks, Ticked, cut-within, behind, ticked}
+use Rattle.behavior.proofs.Ticks.{path_ticks, Ticked, cut-within, behind, ticked}
 use Rattle.limm_ir.specs.Costs.{no_cost, cost_of}
 use Rattle.limm_ir.specs.Steps.{IrState, ir_step, ir_steps}
 use Rattle.limm_ir.specs.Blocks.{ir_end, ir_block}
 use Rattle.limm_ir.specs.declared.block.IrEnd.{IrEnd}
-use Rattle.limm_ir.specs.declared.block.IrEnd.TheVariants as ends
 use Rattle.limm_ir.specs.declared.step.IrStep.{IrStep}
 
 -- steps, and then more steps

@@ -1,5 +1,5 @@
 -- What steps do, one behind the other.
-use Rattle.std.specs.Prelude.{ℕ, ◌^◌, ◌%◌, ◌==◌, List, [], ◌∷◌, Option, Some, None, if◌then◌else◌}
+use Rattle.std.specs.Prelude.{ℕ, ◌^◌, ◌%◌, ◌==◌, List, [], ◌∷◌, Some, None, if◌then◌else◌}
 use Rattle.ev_graph.specs.declared.events.FenceKind.{FenceKind}
 use Rattle.ev_graph.specs.declared.events.FenceKind.TheVariants as kinds
 use Rattle.behavior.specs.Tree.{Tree, Next, ◌then◌, ticks}
