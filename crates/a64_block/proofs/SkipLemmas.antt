@@ -1,10 +1,10 @@
 -- How many words a row leaves out, and that a block whose branches stay within it leaves out none behind its last word.
-use Rattle.std.proofs.Common.{◌≡◌, ℕ, zero, suc, ◌+◌, ◌%◌, ◌^◌, ◌≤◌, ◌==◌, ◌&&◌, ◌⊎◌, Bool, true, false, not, List, [], ◌∷◌, length, Option, Some, None, refl, sym, inl, inr, arith}
+use Rattle.std.proofs.Common.{◌≡◌, ℕ, zero, suc, ◌+◌, ◌%◌, ◌^◌, ◌≤◌, ◌==◌, ◌&&◌, ◌⊎◌, Bool, true, false, not, List, [], ◌∷◌, length, Option, Some, None, refl, inl, inr, arith}
 use Rattle.std.specs.Prelude.{if◌then◌else◌, ◌*◌, ℤ, pos}
 use Rattle.ev_graph.specs.declared.events.End.TheVariants.{Halted}
 use Rattle.ev_graph.specs.declared.events.AccessKind.TheVariants.{Read, Write}
 use Rattle.ev_graph.specs.declared.events.TrapKind.TheVariants.{BadAccess, Divide, Invalid, BadReturn, BadJump}
-use Rattle.behavior.specs.Tree.{Tree, Gives, Begins, Acts, Next, Goes, Stops, ◌then◌}
+use Rattle.behavior.specs.Tree.{Tree, Gives, Begins, Acts, Next, Stops, ◌then◌}
 use Rattle.behavior.specs.Acts.{Permission, traps, access, makes, locked_write, exchanges, takes_in, puts_out}
 use Rattle.behavior.proofs.Results.{results_then}
 use Rattle.behavior.proofs.Unfolding.{AllResults, results_choice}

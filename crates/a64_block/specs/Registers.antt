@@ -1,5 +1,5 @@
 -- Registers as numbers, and where the machine has them.
-use Rattle.std.specs.Prelude.{ℕ, ◌+◌, ◌==◌, nat_lt, if◌then◌else◌}
+use Rattle.std.specs.Prelude.{ℕ, ◌+◌, nat_lt, if◌then◌else◌}
 use Rattle.a64_table.specs.State.{Names}
 
 -- Registers without names are numbers: 0 to 15 are those of x86, 16 to 19 the flags CF, ZF, SF and OF, 20 reads as 0, and

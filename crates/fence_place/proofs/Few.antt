@@ -1,5 +1,5 @@
 -- Steps with fences cost no more than the steps with what their fences may cost.
-use Rattle.std.proofs.Common.{ℕ, ◌+◌, ◌≤◌, ◌≡◌, Bool, true, false, List, [], ◌∷◌, ◌++◌, ap, ◌∙◌, sym, arith}
+use Rattle.std.proofs.Common.{ℕ, ◌≤◌, Bool, true, false, List, [], ◌∷◌, arith}
 use Rattle.std.specs.Prelude.{if◌then◌else◌}
 use Rattle.std.specs.List.{flat_map}
 use Rattle.x64_syntax.specs.declared.slots.Slot.{Slot}
@@ -7,7 +7,7 @@ use Rattle.x64_syntax.specs.declared.slots.SlotKind.TheVariants.{Read, Write}
 use Rattle.limm_ir.specs.Costs.{step_cost, fenced_cost, cost_of}
 use Rattle.limm_ir.specs.declared.step.IrStep.{IrStep}
 use Rattle.limm_ir.specs.declared.step.IrStep.TheVariants as steps
-use Rattle.limm_ir.specs.declared.step.IrFence.TheVariants.{Frm, Fww, Fsc}
+use Rattle.limm_ir.specs.declared.step.IrFence.TheVariants.{Frm, Fww}
 use Rattle.limm_ir.proofs.CallerLemmas.{cost_of-append}
 use Rattle.fence_place.specs.Marked.{marked}
 use Rattle.fence_place.specs.Fenced.{fenced}

@@ -1,17 +1,17 @@
 -- Fences keep accesses with their places, inputs and outputs.
-use Rattle.std.proofs.Common.{Bool, true, false, List, [], ◌∷◌, ◌++◌, ℕ, ◌+◌, ◌≤◌, refl, sym, ap, ◌∙◌, ◌≡◌, subst, arith}
+use Rattle.std.proofs.Common.{Bool, true, false, List, [], ◌∷◌, ℕ, ◌+◌, ◌≤◌, refl, sym, ◌≡◌, subst, arith}
 use Rattle.std.specs.Prelude.{if◌then◌else◌}
 use Rattle.std.specs.List.{AllByRecursion, flat_map}
 use Rattle.ev_graph.specs.declared.events.Item.{Item}
 use Rattle.ev_graph.specs.declared.events.Item.TheVariants as items
-use Rattle.behavior.specs.Tree.{Tree, Gives, Begins, Acts, Next, Goes, Stops, ◌then◌, ticks}
+use Rattle.behavior.specs.Tree.{Tree, Next, ◌then◌, ticks}
 use Rattle.behavior.specs.Acts.{Permission, goes, fences_at}
 use Rattle.behavior.specs.Seen.{placed, placed_full}
-use Rattle.behavior.specs.Kept.{SameNext, both-go, both-stop, Keeps}
+use Rattle.behavior.specs.Kept.{SameNext, both-go, Keeps}
 use Rattle.behavior.proofs.Results.{results_any, self_then}
 use Rattle.behavior.proofs.Ticks.{ticks-then, earn_many}
 use Rattle.behavior.proofs.SeenLemmas.{SeesByParts, sees-placed, sees-placed_full}
-use Rattle.behavior.proofs.Beside.{Beside, give, earn, spend, act, beside_keeps, spend_many}
+use Rattle.behavior.proofs.Beside.{Beside, give, spend, beside_keeps, spend_many}
 use Rattle.behavior.proofs.ActsLemmas.{beside_target_fence}
 use Rattle.behavior.proofs.KeepsLemmas.{keeps_then}
 use Rattle.x64_syntax.specs.declared.slots.Slot.{Slot}

@@ -1,7 +1,7 @@
 -- Steps with fences set the temporaries that the steps set, once, and have no more of them live.
-use Rattle.std.proofs.Common.{◌≡◌, ℕ, ◌≤◌, ◌<◌, ◌^◌, Bool, true, false, List, [], ◌∷◌, ◌++◌, length, eqb, refl, sym, ap, subst, inl, inr, arith}
-use Rattle.std.specs.Prelude.{◌⊎◌, if◌then◌else◌, Option, Some, None, Contains}
-use Rattle.std.specs.List.{flat_map, AllByRecursion, IsDistinct}
+use Rattle.std.proofs.Common.{◌≡◌, ℕ, Bool, true, false, List, [], ◌∷◌, ◌++◌, refl, ap, subst, inl, inr, arith}
+use Rattle.std.specs.Prelude.{◌⊎◌, if◌then◌else◌, Some, Contains}
+use Rattle.std.specs.List.{flat_map, AllByRecursion}
 use Rattle.x64_syntax.specs.declared.slots.Slot.{Slot}
 use Rattle.x64_syntax.specs.declared.slots.SlotKind.TheVariants.{Read, Write}
 use Rattle.limm_ir.specs.declared.block.IrEnd.{IrEnd}

@@ -14,7 +14,6 @@ use Rattle.x64_syntax.specs.declared.instr.Instr.TheVariants as instr
 use Rattle.x64_syntax.specs.declared.operand.Cond.{Cond}
 use Rattle.x64_syntax.specs.declared.operand.Operand.{Operand}
 use Rattle.x64_syntax.specs.declared.operand.Operand.TheVariants as operand
-use Rattle.x64_syntax.specs.declared.operand.Reg.{Reg}
 use Rattle.x64_syntax.specs.declared.operand.Width.{Width}
 use Rattle.x64_syntax.specs.declared.operand.Width.TheVariants as width
 use Rattle.x64_table.specs.State.{Thread, register, set, rax, upper, address}

@@ -1,5 +1,5 @@
 -- The steps of an instruction do what its row does.
-use Rattle.std.proofs.Common.{◌≡◌, ℕ, ◌+◌, ◌%◌, ◌^◌, ◌<◌, ◌≤◌, true, false, [], refl, subst, arith}
+use Rattle.std.proofs.Common.{◌≡◌, ℕ, ◌+◌, ◌%◌, ◌^◌, ◌<◌, true, false, [], refl, subst, arith}
 use Rattle.behavior.specs.Tree.{◌then◌}
 use Rattle.behavior.specs.Acts.{Permission}
 use Rattle.behavior.specs.Leaving.{SameLeft}
@@ -14,13 +14,12 @@ use Rattle.x64_syntax.specs.declared.placed.Placed.{Placed}
 use Rattle.x64_table.specs.Blocks.{goes_on, x64_block}
 use Rattle.x64_table.specs.Rows.{row_of}
 use Rattle.x64_table.specs.State.{Thread}
-use Rattle.limm_ir.specs.Costs.{no_cost, cost_of, fenced_cost}
+use Rattle.limm_ir.specs.Costs.{no_cost}
 use Rattle.limm_ir.specs.Steps.{IrState}
 use Rattle.limm_ir.specs.Blocks.{ir_block}
-use Rattle.limm_ir.proofs.CallerLemmas.{keeps_counted}
 use Rattle.lift_alu.specs.Built.{is_built}
 use Rattle.lift_alu.specs.Lifted.{lifts}
-use Rattle.lift_alu.specs.Meant.{SameThread, LiftsInstr, after, end_from, end_of}
+use Rattle.lift_alu.specs.Meant.{SameThread, after, end_from, end_of}
 use Rattle.lift_alu.proofs.Instructions.{Means}
 use Rattle.lift_alu.proofs.LiftedMoves.{mov_means, lea_means, movzx_means, movsx_means, movsxd_means, setcc_means, cmovcc_means, widen_means, signfill_means, xchg_means}
 use Rattle.lift_alu.proofs.LiftedStack.{push_means, pop_means, leave_means, ret_means, nop_means, pause_means, endbr_means, mfence_means, ud2_means}
@@ -94,10 +93,3 @@ lifts_mean p temps formed built may table s i at same =
     beside_keeps placed_full sees-placed_full 0 (SameNext (SameLeft SameThread))
     (subst (λ a. Beside placed_full 0 (SameNext (SameLeft SameThread)) 0 (row_of may p.instr p.length p.flow s then goes_on table (x64_block may table []))
     (ir_block no_cost may (lifts a ((a + p.length) % 2 ^ 64) p.instr temps) (end_from p.instr ((a + p.length) % 2 ^ 64) temps) i)) at here)
-
--- and so where each step begins as many instructions as it costs, of which there are at most `most`
-pub lifts_instr : (most : ℕ) (p : Placed) (temps : ℕ) → IsFormed p.instr → is_built p.instr ≡ true → cost_of fenced_cost (lifts p.address (after p) p.instr temps) ≤ most
-    → LiftsInstr most p temps (lifts p.address (after p) p.instr temps)
-lifts_instr most p temps formed built few may table s i at same =
-    keeps_counted fenced_cost may placed_full most (SameNext (SameLeft SameThread)) (row_of may p.instr p.length p.flow s then goes_on table (x64_block may table []))
-    (lifts p.address (after p) p.instr temps) (end_of p temps) i few (lifts_mean p temps formed built may table s i at same)

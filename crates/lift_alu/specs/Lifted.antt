@@ -1,5 +1,5 @@
 -- The steps of each instruction that is lifted so far, as formulas.
-use Rattle.std.specs.Prelude.{ℕ, ◌+◌, ◌-◌, ◌%◌, ◌^◌, List, [], ◌∷◌}
+use Rattle.std.specs.Prelude.{ℕ, [], ◌∷◌}
 use Rattle.word_arith.specs.Masks.{ones}
 use Rattle.x64_syntax.specs.Operands.{bits}
 use Rattle.x64_syntax.specs.declared.instr.AluOp.{AluOp}
@@ -11,12 +11,10 @@ use Rattle.x64_syntax.specs.declared.operand.Operand.TheVariants as operand
 use Rattle.x64_syntax.specs.declared.operand.Reg.{Reg}
 use Rattle.x64_syntax.specs.declared.operand.Width.{Width}
 use Rattle.x64_syntax.specs.declared.operand.Width.TheVariants as width
-use Rattle.x64_syntax.specs.declared.placed.Placed.{Placed}
 use Rattle.x64_table.specs.State.{bytes, rax, upper}
 use Rattle.x64_table.specs.Rows.{half}
 use Rattle.limm_ir.specs.declared.step.IrFence.TheVariants.{Fsc}
 use Rattle.limm_ir.specs.declared.step.IrOp.TheVariants as ops
-use Rattle.limm_ir.specs.declared.step.IrStep.{IrStep}
 use Rattle.limm_ir.specs.declared.step.IrStep.TheVariants as steps
 use Rattle.lift_alu.specs.Formulas.{Formula, Kept, Number, Register, Flag, Operation, Choice, Lifting, done, keeps, sets_register, loads, stores}
 use Rattle.lift_alu.specs.Operands.{clean, with_sign, register_formula, merged_formula, address_formula}

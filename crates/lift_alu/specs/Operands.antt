@@ -1,8 +1,7 @@
 -- The formulas of operands: what a register holds at a width, what becomes of it, and the address of memory.
-use Rattle.std.specs.Prelude.{ℕ, ◌+◌, ◌-◌, ◌%◌, ◌^◌, ◌==◌, pos, ◌+ℤ◌, Bool, true, false, Option, Some, None, if◌then◌else◌}
-use Rattle.word_arith.specs.Masks.{ones, ones_at, zeros_at}
+use Rattle.std.specs.Prelude.{ℕ, ◌==◌, pos, ◌+ℤ◌, Bool, true, false, Option, Some, None, if◌then◌else◌}
+use Rattle.word_arith.specs.Masks.{zeros_at}
 use Rattle.word_arith.specs.Signed.{low_bits}
-use Rattle.x64_syntax.specs.Operands.{bits}
 use Rattle.x64_syntax.specs.declared.operand.Mem.{Mem}
 use Rattle.x64_syntax.specs.declared.operand.Reg.{Reg}
 use Rattle.x64_syntax.specs.declared.operand.Width.{Width}

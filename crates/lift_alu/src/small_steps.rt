@@ -6,10 +6,10 @@ use smallvec::SmallVec;
 use std::alloc::Global;
 use std::marker::Model;
 
-/// A few steps, which take no memory up to 16 of them. Contracts see them as a list.
+/// A few steps, which take no memory up to 32 of them. Contracts see them as a list.
 #[derive(Debug, Drop)]
 pub struct SmallSteps {
-    steps: SmallVec<IrStep, 16>,
+    steps: SmallVec<IrStep, 32>,
 }
 
 impl Model for SmallSteps {
