@@ -1,5 +1,5 @@
 -- A line that can be lifted, and its steps.
-use Rattle.std.proofs.Common.{◌≡◌, ℕ, List, [], ◌∷◌, sym, subst, arith}
+use Rattle.std.proofs.Common.{◌≡◌, List, [], ◌∷◌, sym, subst, arith}
 use Rattle.x64_syntax.specs.declared.placed.Placed.{Placed}
 use Rattle.limm_ir.specs.Conditions.{IsSelectable}
 use Rattle.limm_ir.specs.declared.block.IrEnd.{IrEnd}

@@ -1,13 +1,11 @@
 -- Steps of instructions one behind the other, each with temporaries of its own, may be selected where those of each may be.
-use Rattle.std.proofs.Common.{◌≡◌, ◌≢◌, ℕ, zero, suc, ◌+◌, ◌*◌, ◌^◌, ◌<◌, ◌≤◌, ◌==◌, Bool, true, false, List, [], ◌∷◌, ◌++◌, length, take, eqb, refl, sym, ap, ◌∙◌, subst, inl, inr, arith, append_assoc}
+use Rattle.std.proofs.Common.{◌≡◌, ℕ, zero, suc, ◌+◌, ◌*◌, ◌^◌, ◌<◌, ◌≤◌, ◌==◌, Bool, true, false, List, [], ◌∷◌, ◌++◌, length, take, refl, sym, ap, ◌∙◌, subst, inl, inr, arith, append_assoc}
 use Rattle.std.specs.Prelude.{◌⊎◌, if◌then◌else◌, slice_index_or, Option, Some, None, Contains}
-use Rattle.std.specs.List.{AllByRecursion, IsDistinct}
+use Rattle.std.specs.List.{AllByRecursion}
 use Rattle.std.proofs.lemmas.Bool.Decides.{nat_tests}
 use Rattle.std.proofs.lemmas.List.{append-nil, take_more, length-take-le}
-use Rattle.ev_graph.specs.declared.events.TrapKind.TheVariants.{BadAccess}
 use Rattle.x64_syntax.specs.declared.placed.Placed.{Placed}
 use Rattle.limm_ir.specs.declared.block.IrEnd.{IrEnd}
-use Rattle.limm_ir.specs.declared.block.IrEnd.TheVariants as ends
 use Rattle.limm_ir.specs.declared.step.IrOp.{IrOp}
 use Rattle.limm_ir.specs.declared.step.IrOp.TheVariants as ops
 use Rattle.limm_ir.specs.declared.step.IrStep.{IrStep}
@@ -15,8 +13,8 @@ use Rattle.limm_ir.specs.declared.step.IrStep.TheVariants as steps
 use Rattle.limm_ir.specs.Conditions.{step_reads, step_sets, end_reads, Known, Unset, Set, Constant, IsSet, know, learn, HasConstant, InRange, IsWell, IsWellMade, IsSetIn, SetsOnce, IsRead, IsLiveAt, LiveAtMost, IsUnlocked, IsSelectable}
 use Rattle.limm_ir.specs.Costs.{cost_of, fenced_cost}
 use Rattle.limm_ir.proofs.CallerLemmas.{cost_of-append}
-use Rattle.lift_alu.specs.Meant.{SetsFrom, end_of, after, AreStepsOf}
-use Rattle.lift.specs.Block.{GoOn, end_from, AreStepsFrom}
+use Rattle.lift_alu.specs.Meant.{end_of, AreStepsOf}
+use Rattle.lift.specs.Block.{end_from, AreStepsFrom}
 
 -- ---- what is known may be more
 

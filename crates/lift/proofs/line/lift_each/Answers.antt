@@ -1,4 +1,4 @@
-use Rattle.std.proofs.Common.{◌≡◌, ◌+◌, ◌*◌, ◌∙◌, ◌++◌, ap, arith}
+use Rattle.std.proofs.Common.{◌∙◌, ◌++◌, ap, arith}
 use Rattle.lift_alu.specs.Meant.{AreStepsOf}
 use Rattle.lift.proofs.Selectable.{steps_next}
 use Rattle.lift.proofs.line.lift_each.Goals as goal

@@ -1,4 +1,4 @@
-use Rattle.std.proofs.Common.{◌≡◌, ◌∙◌, sym, subst}
+use Rattle.std.proofs.Common.{sym, subst}
 use Rattle.lift.specs.Block.{AreStepsFrom}
 use Rattle.lift.proofs.Lines.{line_means, line_selectable}
 use Rattle.lift.proofs.Selectable.{block_few, block_unlocked}
