@@ -274,8 +274,8 @@ carries_cons : (first code : ℕ) (all : List ℕ) (entry : ℕ) (p : Placed) (p
     → StandAt code all entry (ws ++ ending fin) → AllByRecursion IsForward (ws ++ ending fin) → entry + 4 * length (ws ++ ending fin) < 2 ^ 63 → CarriesLine first (p ∷ ps) code all entry
 carries_cons first code all entry p ps ws fin is stand forward low =
     let keeps : (may : Permission) (s : Thread) (t : AThread) → Starts first entry s t → Keeps full 256 0 (SameNext (Starts first entry)) (line_tree may (p ∷ ps) s) (code_tree may entry ws fin t.state) = λ may s t starts.
-        keeps_faster full 65 256 0 (SameNext (Starts first entry)) (omega arith)
-        (keeps_first full 62 3 (SameNext (Starts first entry)) (threads_keep first entry (p ∷ ps) ws fin is.stands is.straight.translated is.passes is.layable is.ending may s t starts)) in
+    keeps_faster full 65 256 0 (SameNext (Starts first entry)) (omega arith)
+    (keeps_first full 62 3 (SameNext (Starts first entry)) (threads_keep first entry (p ∷ ps) ws fin is.stands is.straight.translated is.passes is.layable is.ending may s t starts)) in
     record {
       backward = λ may placed found s t starts made end n run. blocks-back full sees-full 256 (Starts first entry) (x64_step may (straight_code placed)) (line_tree may (p ∷ ps)) (λ s. s.at ≡ first) (source_blocks may placed first p ps is.straight found)
           (a64_step may code all) (λ t. code_tree may entry ws fin t.state) (λ t. t.at ≡ entry) (target_blocks may code all entry ws fin stand forward low) (leads first entry) (keeps may) s t starts made end n run;

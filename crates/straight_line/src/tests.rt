@@ -1,25 +1,34 @@
-ghost use Rattle.std.specs.Prelude.{◌≤◌, length, IfOk};
-ghost use Rattle.gen_input.specs.BuiltFile.{IsShort};
-
 mod forms;
 mod runs;
 
 use crate::translate_line;
 use elf_format::Symbol;
-use elf_read::read_elf;
+use elf_read::{Elf, read_elf};
 use ev_graph::List;
 use gen_input::build;
 use line_read::read_lines;
 use std::alloc::Global;
 use std::test::Fail;
 
-/// A thread's symbol.
-fn thread(alloc: Global, name: &[u8], address: u64) -> Result<Symbol, Fail>
-    requires { length name.now ≤ 32 }
-    ensures { IfOk result IsShort }
-{
-    let name = List::of(Vec::from_slice(alloc, name)?);
-    Ok(Symbol { name, address })
+/// A program with this code and one thread, and the words of its line, of which there are at most 64 for each instruction.
+fn translated(alloc: Global, code: &[u8]) -> Result<(Elf, Vec<u32>), Fail> {
+    if code.len() > 0x1000 {
+        return Err("too much for a test".into());
+    }
+    let mut threads = Vec::new(alloc);
+    threads.push(Symbol {
+        name: List::of(Vec::from_slice(alloc, b"thread_0")?),
+        address: 0x401000,
+    })?;
+    let file = build(alloc, code, &[0; 64], 0x404000, &threads).map_err(|_| "not built")?;
+    let elf = read_elf(alloc, &file).map_err(|_| "refused")?;
+    let lines = read_lines(alloc, &elf).map_err(|_| "not read")?;
+    let line = lines.first().ok_or("no line")?;
+    let words = translate_line(alloc, line.first, line.placed.as_slice())?;
+    if words.len() > 64 * line.placed.as_slice().len() {
+        return Err("too many words".into());
+    }
+    Ok((elf, words))
 }
 
 /// mov edi, 0x404000; mov rax, [rdi]; mfence; mov [rdi], rax; mov rcx, rdx; mov rax, 0x1122334400007788; ret
@@ -30,14 +39,7 @@ const CODE: &[u8] =
 #[test]
 fn translates_each_instruction(rt: HostRuntime) -> Result<(), Fail> {
     let alloc = rt.alloc();
-    let threads = [thread(alloc, b"thread_0", 0x401000)?];
-    let file = build(alloc, CODE, &[0; 64], 0x404000, &threads).map_err(|_| "not built")?;
-    let elf = read_elf(alloc, &file).map_err(|_| "refused")?;
-    let lines = read_lines(alloc, &elf).map_err(|_| "not read")?;
-    let mut words = Vec::new(alloc);
-    for line in &lines {
-        words.extend_from_slice(&translate_line(alloc, line.first, line.placed.as_slice())?)?;
-    }
+    let (_, words) = translated(alloc, CODE)?;
     let wanted: [u32; 29] = [
         0xD288_0010, // mov x16, #0x4000
         0xF2A0_0810, // movk x16, #0x40, lsl #16

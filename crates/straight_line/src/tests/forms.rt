@@ -1,253 +1,253 @@
-/// Instructions that are translated so far, each alone: every operation at each width, with registers, memory and numbers
-/// (bytes as `llvm-mc -triple=x86_64 -x86-asm-syntax=intel -show-encoding` gives them).
-pub const FORMS: [&[u8]; 249] = [
-    b"\x00\xC8", // add al, cl
-    b"\x00\x7C\xDF\xF0", // add byte ptr [rdi + 8*rbx - 16], bh
-    b"\x02\x4C\xDF\xF0", // add cl, byte ptr [rdi + 8*rbx - 16]
-    b"\x80\x44\xDF\xF0\xFB", // add byte ptr [rdi + 8*rbx - 16], -5
-    b"\x08\xC8", // or al, cl
-    b"\x08\x7C\xDF\xF0", // or byte ptr [rdi + 8*rbx - 16], bh
-    b"\x0A\x4C\xDF\xF0", // or cl, byte ptr [rdi + 8*rbx - 16]
-    b"\x80\x4C\xDF\xF0\xFB", // or byte ptr [rdi + 8*rbx - 16], -5
-    b"\x10\xC8", // adc al, cl
-    b"\x10\x7C\xDF\xF0", // adc byte ptr [rdi + 8*rbx - 16], bh
-    b"\x12\x4C\xDF\xF0", // adc cl, byte ptr [rdi + 8*rbx - 16]
-    b"\x80\x54\xDF\xF0\xFB", // adc byte ptr [rdi + 8*rbx - 16], -5
-    b"\x18\xC8", // sbb al, cl
-    b"\x18\x7C\xDF\xF0", // sbb byte ptr [rdi + 8*rbx - 16], bh
-    b"\x1A\x4C\xDF\xF0", // sbb cl, byte ptr [rdi + 8*rbx - 16]
-    b"\x80\x5C\xDF\xF0\xFB", // sbb byte ptr [rdi + 8*rbx - 16], -5
-    b"\x20\xC8", // and al, cl
-    b"\x20\x7C\xDF\xF0", // and byte ptr [rdi + 8*rbx - 16], bh
-    b"\x22\x4C\xDF\xF0", // and cl, byte ptr [rdi + 8*rbx - 16]
-    b"\x80\x64\xDF\xF0\xFB", // and byte ptr [rdi + 8*rbx - 16], -5
-    b"\x28\xC8", // sub al, cl
-    b"\x28\x7C\xDF\xF0", // sub byte ptr [rdi + 8*rbx - 16], bh
-    b"\x2A\x4C\xDF\xF0", // sub cl, byte ptr [rdi + 8*rbx - 16]
-    b"\x80\x6C\xDF\xF0\xFB", // sub byte ptr [rdi + 8*rbx - 16], -5
-    b"\x30\xC8", // xor al, cl
-    b"\x30\x7C\xDF\xF0", // xor byte ptr [rdi + 8*rbx - 16], bh
-    b"\x32\x4C\xDF\xF0", // xor cl, byte ptr [rdi + 8*rbx - 16]
-    b"\x80\x74\xDF\xF0\xFB", // xor byte ptr [rdi + 8*rbx - 16], -5
-    b"\x38\xC8", // cmp al, cl
-    b"\x38\x7C\xDF\xF0", // cmp byte ptr [rdi + 8*rbx - 16], bh
-    b"\x3A\x4C\xDF\xF0", // cmp cl, byte ptr [rdi + 8*rbx - 16]
-    b"\x80\x7C\xDF\xF0\xFB", // cmp byte ptr [rdi + 8*rbx - 16], -5
-    b"\x84\xC8", // test al, cl
-    b"\xF6\x44\xDF\xF0\xFB", // test byte ptr [rdi + 8*rbx - 16], -5
-    b"\x86\xE0", // xchg ah, al
-    b"\x88\xC8", // mov al, cl
-    b"\x88\x7C\xDF\xF0", // mov byte ptr [rdi + 8*rbx - 16], bh
-    b"\x8A\x7C\xDF\xF0", // mov bh, byte ptr [rdi + 8*rbx - 16]
-    b"\xC6\x44\xDF\xF0\xFB", // mov byte ptr [rdi + 8*rbx - 16], -5
-    b"\xB1\xFB", // mov cl, -5
-    b"\xFE\xC1", // inc cl
-    b"\xFE\x44\xDF\xF0", // inc byte ptr [rdi + 8*rbx - 16]
-    b"\xFE\xC9", // dec cl
-    b"\xFE\x4C\xDF\xF0", // dec byte ptr [rdi + 8*rbx - 16]
-    b"\xF6\xD1", // not cl
-    b"\xF6\x54\xDF\xF0", // not byte ptr [rdi + 8*rbx - 16]
-    b"\xF6\xD9", // neg cl
-    b"\xF6\x5C\xDF\xF0", // neg byte ptr [rdi + 8*rbx - 16]
-    b"\x0F\xC0\xC8", // xadd al, cl
-    b"\x66\x01\xC8", // add ax, cx
-    b"\x66\x01\x54\xDF\xF0", // add word ptr [rdi + 8*rbx - 16], dx
-    b"\x66\x03\x4C\xDF\xF0", // add cx, word ptr [rdi + 8*rbx - 16]
-    b"\x66\x81\x44\xDF\xF0\xE8\x03", // add word ptr [rdi + 8*rbx - 16], 1000
-    b"\x66\x09\xC8", // or ax, cx
-    b"\x66\x09\x54\xDF\xF0", // or word ptr [rdi + 8*rbx - 16], dx
-    b"\x66\x0B\x4C\xDF\xF0", // or cx, word ptr [rdi + 8*rbx - 16]
-    b"\x66\x81\x4C\xDF\xF0\xE8\x03", // or word ptr [rdi + 8*rbx - 16], 1000
-    b"\x66\x11\xC8", // adc ax, cx
-    b"\x66\x11\x54\xDF\xF0", // adc word ptr [rdi + 8*rbx - 16], dx
-    b"\x66\x13\x4C\xDF\xF0", // adc cx, word ptr [rdi + 8*rbx - 16]
-    b"\x66\x81\x54\xDF\xF0\xE8\x03", // adc word ptr [rdi + 8*rbx - 16], 1000
-    b"\x66\x19\xC8", // sbb ax, cx
-    b"\x66\x19\x54\xDF\xF0", // sbb word ptr [rdi + 8*rbx - 16], dx
-    b"\x66\x1B\x4C\xDF\xF0", // sbb cx, word ptr [rdi + 8*rbx - 16]
-    b"\x66\x81\x5C\xDF\xF0\xE8\x03", // sbb word ptr [rdi + 8*rbx - 16], 1000
-    b"\x66\x21\xC8", // and ax, cx
-    b"\x66\x21\x54\xDF\xF0", // and word ptr [rdi + 8*rbx - 16], dx
-    b"\x66\x23\x4C\xDF\xF0", // and cx, word ptr [rdi + 8*rbx - 16]
-    b"\x66\x81\x64\xDF\xF0\xE8\x03", // and word ptr [rdi + 8*rbx - 16], 1000
-    b"\x66\x29\xC8", // sub ax, cx
-    b"\x66\x29\x54\xDF\xF0", // sub word ptr [rdi + 8*rbx - 16], dx
-    b"\x66\x2B\x4C\xDF\xF0", // sub cx, word ptr [rdi + 8*rbx - 16]
-    b"\x66\x81\x6C\xDF\xF0\xE8\x03", // sub word ptr [rdi + 8*rbx - 16], 1000
-    b"\x66\x31\xC8", // xor ax, cx
-    b"\x66\x31\x54\xDF\xF0", // xor word ptr [rdi + 8*rbx - 16], dx
-    b"\x66\x33\x4C\xDF\xF0", // xor cx, word ptr [rdi + 8*rbx - 16]
-    b"\x66\x81\x74\xDF\xF0\xE8\x03", // xor word ptr [rdi + 8*rbx - 16], 1000
-    b"\x66\x39\xC8", // cmp ax, cx
-    b"\x66\x39\x54\xDF\xF0", // cmp word ptr [rdi + 8*rbx - 16], dx
-    b"\x66\x3B\x4C\xDF\xF0", // cmp cx, word ptr [rdi + 8*rbx - 16]
-    b"\x66\x81\x7C\xDF\xF0\xE8\x03", // cmp word ptr [rdi + 8*rbx - 16], 1000
-    b"\x66\x85\xC8", // test ax, cx
-    b"\x66\xF7\x44\xDF\xF0\xE8\x03", // test word ptr [rdi + 8*rbx - 16], 1000
-    b"\x66\x87\xCA", // xchg cx, dx
-    b"\x66\x89\xC8", // mov ax, cx
-    b"\x66\x89\x54\xDF\xF0", // mov word ptr [rdi + 8*rbx - 16], dx
-    b"\x66\x8B\x54\xDF\xF0", // mov dx, word ptr [rdi + 8*rbx - 16]
-    b"\x66\xC7\x44\xDF\xF0\xE8\x03", // mov word ptr [rdi + 8*rbx - 16], 1000
-    b"\x66\xB9\xE8\x03", // mov cx, 1000
-    b"\x66\xFF\xC1", // inc cx
-    b"\x66\xFF\x44\xDF\xF0", // inc word ptr [rdi + 8*rbx - 16]
-    b"\x66\xFF\xC9", // dec cx
-    b"\x66\xFF\x4C\xDF\xF0", // dec word ptr [rdi + 8*rbx - 16]
-    b"\x66\xF7\xD1", // not cx
-    b"\x66\xF7\x54\xDF\xF0", // not word ptr [rdi + 8*rbx - 16]
-    b"\x66\xF7\xD9", // neg cx
-    b"\x66\xF7\x5C\xDF\xF0", // neg word ptr [rdi + 8*rbx - 16]
-    b"\x66\x0F\xC1\xC8", // xadd ax, cx
-    b"\x66\x8D\x44\xDF\xF0", // lea ax, [rdi + 8*rbx - 16]
-    b"\x66\x0F\xB6\xC1", // movzx ax, cl
-    b"\x66\x0F\xBE\x4C\xDF\xF0", // movsx cx, byte ptr [rdi + 8*rbx - 16]
-    b"\x66\x0F\x4C\xC1", // cmovl ax, cx
-    b"\x66\x0F\x47\x54\xDF\xF0", // cmova dx, word ptr [rdi + 8*rbx - 16]
-    b"\x01\xC8", // add eax, ecx
-    b"\x01\x54\xDF\xF0", // add dword ptr [rdi + 8*rbx - 16], edx
-    b"\x03\x4C\xDF\xF0", // add ecx, dword ptr [rdi + 8*rbx - 16]
-    b"\x81\x44\xDF\xF0\x90\xEE\xFE\xFF", // add dword ptr [rdi + 8*rbx - 16], -70000
-    b"\x09\xC8", // or eax, ecx
-    b"\x09\x54\xDF\xF0", // or dword ptr [rdi + 8*rbx - 16], edx
-    b"\x0B\x4C\xDF\xF0", // or ecx, dword ptr [rdi + 8*rbx - 16]
-    b"\x81\x4C\xDF\xF0\x90\xEE\xFE\xFF", // or dword ptr [rdi + 8*rbx - 16], -70000
-    b"\x11\xC8", // adc eax, ecx
-    b"\x11\x54\xDF\xF0", // adc dword ptr [rdi + 8*rbx - 16], edx
-    b"\x13\x4C\xDF\xF0", // adc ecx, dword ptr [rdi + 8*rbx - 16]
-    b"\x81\x54\xDF\xF0\x90\xEE\xFE\xFF", // adc dword ptr [rdi + 8*rbx - 16], -70000
-    b"\x19\xC8", // sbb eax, ecx
-    b"\x19\x54\xDF\xF0", // sbb dword ptr [rdi + 8*rbx - 16], edx
-    b"\x1B\x4C\xDF\xF0", // sbb ecx, dword ptr [rdi + 8*rbx - 16]
-    b"\x81\x5C\xDF\xF0\x90\xEE\xFE\xFF", // sbb dword ptr [rdi + 8*rbx - 16], -70000
-    b"\x21\xC8", // and eax, ecx
-    b"\x21\x54\xDF\xF0", // and dword ptr [rdi + 8*rbx - 16], edx
-    b"\x23\x4C\xDF\xF0", // and ecx, dword ptr [rdi + 8*rbx - 16]
-    b"\x81\x64\xDF\xF0\x90\xEE\xFE\xFF", // and dword ptr [rdi + 8*rbx - 16], -70000
-    b"\x29\xC8", // sub eax, ecx
-    b"\x29\x54\xDF\xF0", // sub dword ptr [rdi + 8*rbx - 16], edx
-    b"\x2B\x4C\xDF\xF0", // sub ecx, dword ptr [rdi + 8*rbx - 16]
-    b"\x81\x6C\xDF\xF0\x90\xEE\xFE\xFF", // sub dword ptr [rdi + 8*rbx - 16], -70000
-    b"\x31\xC8", // xor eax, ecx
-    b"\x31\x54\xDF\xF0", // xor dword ptr [rdi + 8*rbx - 16], edx
-    b"\x33\x4C\xDF\xF0", // xor ecx, dword ptr [rdi + 8*rbx - 16]
-    b"\x81\x74\xDF\xF0\x90\xEE\xFE\xFF", // xor dword ptr [rdi + 8*rbx - 16], -70000
-    b"\x39\xC8", // cmp eax, ecx
-    b"\x39\x54\xDF\xF0", // cmp dword ptr [rdi + 8*rbx - 16], edx
-    b"\x3B\x4C\xDF\xF0", // cmp ecx, dword ptr [rdi + 8*rbx - 16]
-    b"\x81\x7C\xDF\xF0\x90\xEE\xFE\xFF", // cmp dword ptr [rdi + 8*rbx - 16], -70000
-    b"\x85\xC8", // test eax, ecx
-    b"\xF7\x44\xDF\xF0\x90\xEE\xFE\xFF", // test dword ptr [rdi + 8*rbx - 16], -70000
-    b"\x87\xCA", // xchg ecx, edx
-    b"\x89\xC8", // mov eax, ecx
-    b"\x89\x54\xDF\xF0", // mov dword ptr [rdi + 8*rbx - 16], edx
-    b"\x8B\x54\xDF\xF0", // mov edx, dword ptr [rdi + 8*rbx - 16]
-    b"\xC7\x44\xDF\xF0\x90\xEE\xFE\xFF", // mov dword ptr [rdi + 8*rbx - 16], -70000
-    b"\xB9\x90\xEE\xFE\xFF", // mov ecx, -70000
-    b"\xFF\xC1", // inc ecx
-    b"\xFF\x44\xDF\xF0", // inc dword ptr [rdi + 8*rbx - 16]
-    b"\xFF\xC9", // dec ecx
-    b"\xFF\x4C\xDF\xF0", // dec dword ptr [rdi + 8*rbx - 16]
-    b"\xF7\xD1", // not ecx
-    b"\xF7\x54\xDF\xF0", // not dword ptr [rdi + 8*rbx - 16]
-    b"\xF7\xD9", // neg ecx
-    b"\xF7\x5C\xDF\xF0", // neg dword ptr [rdi + 8*rbx - 16]
-    b"\x0F\xC1\xC8", // xadd eax, ecx
-    b"\x8D\x44\xDF\xF0", // lea eax, [rdi + 8*rbx - 16]
-    b"\x0F\xB6\xC1", // movzx eax, cl
-    b"\x0F\xBE\x4C\xDF\xF0", // movsx ecx, byte ptr [rdi + 8*rbx - 16]
-    b"\x0F\x4C\xC1", // cmovl eax, ecx
-    b"\x0F\x47\x54\xDF\xF0", // cmova edx, dword ptr [rdi + 8*rbx - 16]
-    b"\x0F\xB7\x44\xDF\xF0", // movzx eax, word ptr [rdi + 8*rbx - 16]
-    b"\x0F\xBF\xD1", // movsx edx, cx
-    b"\x48\x01\xC8", // add rax, rcx
-    b"\x48\x01\x54\xDF\xF0", // add qword ptr [rdi + 8*rbx - 16], rdx
-    b"\x48\x03\x4C\xDF\xF0", // add rcx, qword ptr [rdi + 8*rbx - 16]
-    b"\x48\x81\x44\xDF\xF0\x90\xEE\xFE\xFF", // add qword ptr [rdi + 8*rbx - 16], -70000
-    b"\x48\x09\xC8", // or rax, rcx
-    b"\x48\x09\x54\xDF\xF0", // or qword ptr [rdi + 8*rbx - 16], rdx
-    b"\x48\x0B\x4C\xDF\xF0", // or rcx, qword ptr [rdi + 8*rbx - 16]
-    b"\x48\x81\x4C\xDF\xF0\x90\xEE\xFE\xFF", // or qword ptr [rdi + 8*rbx - 16], -70000
-    b"\x48\x11\xC8", // adc rax, rcx
-    b"\x48\x11\x54\xDF\xF0", // adc qword ptr [rdi + 8*rbx - 16], rdx
-    b"\x48\x13\x4C\xDF\xF0", // adc rcx, qword ptr [rdi + 8*rbx - 16]
-    b"\x48\x81\x54\xDF\xF0\x90\xEE\xFE\xFF", // adc qword ptr [rdi + 8*rbx - 16], -70000
-    b"\x48\x19\xC8", // sbb rax, rcx
-    b"\x48\x19\x54\xDF\xF0", // sbb qword ptr [rdi + 8*rbx - 16], rdx
-    b"\x48\x1B\x4C\xDF\xF0", // sbb rcx, qword ptr [rdi + 8*rbx - 16]
-    b"\x48\x81\x5C\xDF\xF0\x90\xEE\xFE\xFF", // sbb qword ptr [rdi + 8*rbx - 16], -70000
-    b"\x48\x21\xC8", // and rax, rcx
-    b"\x48\x21\x54\xDF\xF0", // and qword ptr [rdi + 8*rbx - 16], rdx
-    b"\x48\x23\x4C\xDF\xF0", // and rcx, qword ptr [rdi + 8*rbx - 16]
-    b"\x48\x81\x64\xDF\xF0\x90\xEE\xFE\xFF", // and qword ptr [rdi + 8*rbx - 16], -70000
-    b"\x48\x29\xC8", // sub rax, rcx
-    b"\x48\x29\x54\xDF\xF0", // sub qword ptr [rdi + 8*rbx - 16], rdx
-    b"\x48\x2B\x4C\xDF\xF0", // sub rcx, qword ptr [rdi + 8*rbx - 16]
-    b"\x48\x81\x6C\xDF\xF0\x90\xEE\xFE\xFF", // sub qword ptr [rdi + 8*rbx - 16], -70000
-    b"\x48\x31\xC8", // xor rax, rcx
-    b"\x48\x31\x54\xDF\xF0", // xor qword ptr [rdi + 8*rbx - 16], rdx
-    b"\x48\x33\x4C\xDF\xF0", // xor rcx, qword ptr [rdi + 8*rbx - 16]
-    b"\x48\x81\x74\xDF\xF0\x90\xEE\xFE\xFF", // xor qword ptr [rdi + 8*rbx - 16], -70000
-    b"\x48\x39\xC8", // cmp rax, rcx
-    b"\x48\x39\x54\xDF\xF0", // cmp qword ptr [rdi + 8*rbx - 16], rdx
-    b"\x48\x3B\x4C\xDF\xF0", // cmp rcx, qword ptr [rdi + 8*rbx - 16]
-    b"\x48\x81\x7C\xDF\xF0\x90\xEE\xFE\xFF", // cmp qword ptr [rdi + 8*rbx - 16], -70000
-    b"\x48\x85\xC8", // test rax, rcx
-    b"\x48\xF7\x44\xDF\xF0\x90\xEE\xFE\xFF", // test qword ptr [rdi + 8*rbx - 16], -70000
-    b"\x48\x87\xCA", // xchg rcx, rdx
-    b"\x48\x89\xC8", // mov rax, rcx
-    b"\x48\x89\x54\xDF\xF0", // mov qword ptr [rdi + 8*rbx - 16], rdx
-    b"\x48\x8B\x54\xDF\xF0", // mov rdx, qword ptr [rdi + 8*rbx - 16]
-    b"\x48\xC7\x44\xDF\xF0\x90\xEE\xFE\xFF", // mov qword ptr [rdi + 8*rbx - 16], -70000
-    b"\x48\xC7\xC1\x90\xEE\xFE\xFF", // mov rcx, -70000
-    b"\x48\xFF\xC1", // inc rcx
-    b"\x48\xFF\x44\xDF\xF0", // inc qword ptr [rdi + 8*rbx - 16]
-    b"\x48\xFF\xC9", // dec rcx
-    b"\x48\xFF\x4C\xDF\xF0", // dec qword ptr [rdi + 8*rbx - 16]
-    b"\x48\xF7\xD1", // not rcx
-    b"\x48\xF7\x54\xDF\xF0", // not qword ptr [rdi + 8*rbx - 16]
-    b"\x48\xF7\xD9", // neg rcx
-    b"\x48\xF7\x5C\xDF\xF0", // neg qword ptr [rdi + 8*rbx - 16]
-    b"\x48\x0F\xC1\xC8", // xadd rax, rcx
-    b"\x48\x8D\x44\xDF\xF0", // lea rax, [rdi + 8*rbx - 16]
-    b"\x48\x0F\xB6\xC1", // movzx rax, cl
-    b"\x48\x0F\xBE\x4C\xDF\xF0", // movsx rcx, byte ptr [rdi + 8*rbx - 16]
-    b"\x48\x0F\x4C\xC1", // cmovl rax, rcx
-    b"\x48\x0F\x47\x54\xDF\xF0", // cmova rdx, qword ptr [rdi + 8*rbx - 16]
-    b"\x48\x0F\xB7\x44\xDF\xF0", // movzx rax, word ptr [rdi + 8*rbx - 16]
-    b"\x48\x0F\xBF\xD1", // movsx rdx, cx
-    b"\x0F\xC0\xE0", // xadd al, ah
-    b"\x00\xCF", // add bh, cl
-    b"\x0F\xBE\xC7", // movsx eax, bh
-    b"\x48\x63\xC1", // movsxd rax, ecx
-    b"\x48\x63\x54\xDF\xF0", // movsxd rdx, dword ptr [rdi + 8*rbx - 16]
-    b"\x51", // push rcx
-    b"\x6A\x4D", // push 77
-    b"\xFF\x74\xDF\xF0", // push qword ptr [rdi + 8*rbx - 16]
-    b"\x5A", // pop rdx
-    b"\x8F\x44\xDF\xF0", // pop qword ptr [rdi + 8*rbx - 16]
-    b"\x5C", // pop rsp
-    b"\x54", // push rsp
-    b"\xC9", // leave
-    b"\x66\x98", // cbw
-    b"\x98", // cwde
-    b"\x48\x98", // cdqe
-    b"\x66\x99", // cwd
-    b"\x99", // cdq
-    b"\x48\x99", // cqo
-    b"\x90", // nop
-    b"\xF3\x90", // pause
-    b"\xF3\x0F\x1E\xFA", // endbr64
-    b"\x0F\xAE\xF0", // mfence
-    b"\x0F\x0B", // ud2
-    b"\x0F\x90\xC1", // seto cl
-    b"\x0F\x93\x44\xDF\xF0", // setae byte ptr [rdi + 8*rbx - 16]
-    b"\x0F\x96\xC2", // setbe dl
-    b"\x0F\x9F\xC4", // setg ah
-    b"\x4C\x8D\x15\x0C\x00\x00\x00", // lea r10, [rip + 12]
-    b"\x8B\x05\x0A\x30\x00\x00", // mov eax, dword ptr [rip + 12298]
-    b"\x48\x01\x07", // add qword ptr [rdi], rax
-    b"\x48\xB8\x88\x77\x66\x55\x44\x33\x22\x11", // mov rax, 0x1122334455667788
-    b"\x48\x89\x0C\x24", // mov qword ptr [rsp], rcx
-    b"\x87\xC0", // xchg eax, eax
-];
+/// Instructions that are translated so far, each alone: every operation at each width, with registers, memory and numbers. Each
+/// is a line: its bytes, and behind a blank its text (as `llvm-mc -triple=x86_64 -x86-asm-syntax=intel -show-encoding` gives them).
+pub const FORMS: &str = "\
+00C8 add al, cl\n\
+007CDFF0 add byte ptr [rdi + 8*rbx - 16], bh\n\
+024CDFF0 add cl, byte ptr [rdi + 8*rbx - 16]\n\
+8044DFF0FB add byte ptr [rdi + 8*rbx - 16], -5\n\
+08C8 or al, cl\n\
+087CDFF0 or byte ptr [rdi + 8*rbx - 16], bh\n\
+0A4CDFF0 or cl, byte ptr [rdi + 8*rbx - 16]\n\
+804CDFF0FB or byte ptr [rdi + 8*rbx - 16], -5\n\
+10C8 adc al, cl\n\
+107CDFF0 adc byte ptr [rdi + 8*rbx - 16], bh\n\
+124CDFF0 adc cl, byte ptr [rdi + 8*rbx - 16]\n\
+8054DFF0FB adc byte ptr [rdi + 8*rbx - 16], -5\n\
+18C8 sbb al, cl\n\
+187CDFF0 sbb byte ptr [rdi + 8*rbx - 16], bh\n\
+1A4CDFF0 sbb cl, byte ptr [rdi + 8*rbx - 16]\n\
+805CDFF0FB sbb byte ptr [rdi + 8*rbx - 16], -5\n\
+20C8 and al, cl\n\
+207CDFF0 and byte ptr [rdi + 8*rbx - 16], bh\n\
+224CDFF0 and cl, byte ptr [rdi + 8*rbx - 16]\n\
+8064DFF0FB and byte ptr [rdi + 8*rbx - 16], -5\n\
+28C8 sub al, cl\n\
+287CDFF0 sub byte ptr [rdi + 8*rbx - 16], bh\n\
+2A4CDFF0 sub cl, byte ptr [rdi + 8*rbx - 16]\n\
+806CDFF0FB sub byte ptr [rdi + 8*rbx - 16], -5\n\
+30C8 xor al, cl\n\
+307CDFF0 xor byte ptr [rdi + 8*rbx - 16], bh\n\
+324CDFF0 xor cl, byte ptr [rdi + 8*rbx - 16]\n\
+8074DFF0FB xor byte ptr [rdi + 8*rbx - 16], -5\n\
+38C8 cmp al, cl\n\
+387CDFF0 cmp byte ptr [rdi + 8*rbx - 16], bh\n\
+3A4CDFF0 cmp cl, byte ptr [rdi + 8*rbx - 16]\n\
+807CDFF0FB cmp byte ptr [rdi + 8*rbx - 16], -5\n\
+84C8 test al, cl\n\
+F644DFF0FB test byte ptr [rdi + 8*rbx - 16], -5\n\
+86E0 xchg ah, al\n\
+88C8 mov al, cl\n\
+887CDFF0 mov byte ptr [rdi + 8*rbx - 16], bh\n\
+8A7CDFF0 mov bh, byte ptr [rdi + 8*rbx - 16]\n\
+C644DFF0FB mov byte ptr [rdi + 8*rbx - 16], -5\n\
+B1FB mov cl, -5\n\
+FEC1 inc cl\n\
+FE44DFF0 inc byte ptr [rdi + 8*rbx - 16]\n\
+FEC9 dec cl\n\
+FE4CDFF0 dec byte ptr [rdi + 8*rbx - 16]\n\
+F6D1 not cl\n\
+F654DFF0 not byte ptr [rdi + 8*rbx - 16]\n\
+F6D9 neg cl\n\
+F65CDFF0 neg byte ptr [rdi + 8*rbx - 16]\n\
+0FC0C8 xadd al, cl\n\
+6601C8 add ax, cx\n\
+660154DFF0 add word ptr [rdi + 8*rbx - 16], dx\n\
+66034CDFF0 add cx, word ptr [rdi + 8*rbx - 16]\n\
+668144DFF0E803 add word ptr [rdi + 8*rbx - 16], 1000\n\
+6609C8 or ax, cx\n\
+660954DFF0 or word ptr [rdi + 8*rbx - 16], dx\n\
+660B4CDFF0 or cx, word ptr [rdi + 8*rbx - 16]\n\
+66814CDFF0E803 or word ptr [rdi + 8*rbx - 16], 1000\n\
+6611C8 adc ax, cx\n\
+661154DFF0 adc word ptr [rdi + 8*rbx - 16], dx\n\
+66134CDFF0 adc cx, word ptr [rdi + 8*rbx - 16]\n\
+668154DFF0E803 adc word ptr [rdi + 8*rbx - 16], 1000\n\
+6619C8 sbb ax, cx\n\
+661954DFF0 sbb word ptr [rdi + 8*rbx - 16], dx\n\
+661B4CDFF0 sbb cx, word ptr [rdi + 8*rbx - 16]\n\
+66815CDFF0E803 sbb word ptr [rdi + 8*rbx - 16], 1000\n\
+6621C8 and ax, cx\n\
+662154DFF0 and word ptr [rdi + 8*rbx - 16], dx\n\
+66234CDFF0 and cx, word ptr [rdi + 8*rbx - 16]\n\
+668164DFF0E803 and word ptr [rdi + 8*rbx - 16], 1000\n\
+6629C8 sub ax, cx\n\
+662954DFF0 sub word ptr [rdi + 8*rbx - 16], dx\n\
+662B4CDFF0 sub cx, word ptr [rdi + 8*rbx - 16]\n\
+66816CDFF0E803 sub word ptr [rdi + 8*rbx - 16], 1000\n\
+6631C8 xor ax, cx\n\
+663154DFF0 xor word ptr [rdi + 8*rbx - 16], dx\n\
+66334CDFF0 xor cx, word ptr [rdi + 8*rbx - 16]\n\
+668174DFF0E803 xor word ptr [rdi + 8*rbx - 16], 1000\n\
+6639C8 cmp ax, cx\n\
+663954DFF0 cmp word ptr [rdi + 8*rbx - 16], dx\n\
+663B4CDFF0 cmp cx, word ptr [rdi + 8*rbx - 16]\n\
+66817CDFF0E803 cmp word ptr [rdi + 8*rbx - 16], 1000\n\
+6685C8 test ax, cx\n\
+66F744DFF0E803 test word ptr [rdi + 8*rbx - 16], 1000\n\
+6687CA xchg cx, dx\n\
+6689C8 mov ax, cx\n\
+668954DFF0 mov word ptr [rdi + 8*rbx - 16], dx\n\
+668B54DFF0 mov dx, word ptr [rdi + 8*rbx - 16]\n\
+66C744DFF0E803 mov word ptr [rdi + 8*rbx - 16], 1000\n\
+66B9E803 mov cx, 1000\n\
+66FFC1 inc cx\n\
+66FF44DFF0 inc word ptr [rdi + 8*rbx - 16]\n\
+66FFC9 dec cx\n\
+66FF4CDFF0 dec word ptr [rdi + 8*rbx - 16]\n\
+66F7D1 not cx\n\
+66F754DFF0 not word ptr [rdi + 8*rbx - 16]\n\
+66F7D9 neg cx\n\
+66F75CDFF0 neg word ptr [rdi + 8*rbx - 16]\n\
+660FC1C8 xadd ax, cx\n\
+668D44DFF0 lea ax, [rdi + 8*rbx - 16]\n\
+660FB6C1 movzx ax, cl\n\
+660FBE4CDFF0 movsx cx, byte ptr [rdi + 8*rbx - 16]\n\
+660F4CC1 cmovl ax, cx\n\
+660F4754DFF0 cmova dx, word ptr [rdi + 8*rbx - 16]\n\
+01C8 add eax, ecx\n\
+0154DFF0 add dword ptr [rdi + 8*rbx - 16], edx\n\
+034CDFF0 add ecx, dword ptr [rdi + 8*rbx - 16]\n\
+8144DFF090EEFEFF add dword ptr [rdi + 8*rbx - 16], -70000\n\
+09C8 or eax, ecx\n\
+0954DFF0 or dword ptr [rdi + 8*rbx - 16], edx\n\
+0B4CDFF0 or ecx, dword ptr [rdi + 8*rbx - 16]\n\
+814CDFF090EEFEFF or dword ptr [rdi + 8*rbx - 16], -70000\n\
+11C8 adc eax, ecx\n\
+1154DFF0 adc dword ptr [rdi + 8*rbx - 16], edx\n\
+134CDFF0 adc ecx, dword ptr [rdi + 8*rbx - 16]\n\
+8154DFF090EEFEFF adc dword ptr [rdi + 8*rbx - 16], -70000\n\
+19C8 sbb eax, ecx\n\
+1954DFF0 sbb dword ptr [rdi + 8*rbx - 16], edx\n\
+1B4CDFF0 sbb ecx, dword ptr [rdi + 8*rbx - 16]\n\
+815CDFF090EEFEFF sbb dword ptr [rdi + 8*rbx - 16], -70000\n\
+21C8 and eax, ecx\n\
+2154DFF0 and dword ptr [rdi + 8*rbx - 16], edx\n\
+234CDFF0 and ecx, dword ptr [rdi + 8*rbx - 16]\n\
+8164DFF090EEFEFF and dword ptr [rdi + 8*rbx - 16], -70000\n\
+29C8 sub eax, ecx\n\
+2954DFF0 sub dword ptr [rdi + 8*rbx - 16], edx\n\
+2B4CDFF0 sub ecx, dword ptr [rdi + 8*rbx - 16]\n\
+816CDFF090EEFEFF sub dword ptr [rdi + 8*rbx - 16], -70000\n\
+31C8 xor eax, ecx\n\
+3154DFF0 xor dword ptr [rdi + 8*rbx - 16], edx\n\
+334CDFF0 xor ecx, dword ptr [rdi + 8*rbx - 16]\n\
+8174DFF090EEFEFF xor dword ptr [rdi + 8*rbx - 16], -70000\n\
+39C8 cmp eax, ecx\n\
+3954DFF0 cmp dword ptr [rdi + 8*rbx - 16], edx\n\
+3B4CDFF0 cmp ecx, dword ptr [rdi + 8*rbx - 16]\n\
+817CDFF090EEFEFF cmp dword ptr [rdi + 8*rbx - 16], -70000\n\
+85C8 test eax, ecx\n\
+F744DFF090EEFEFF test dword ptr [rdi + 8*rbx - 16], -70000\n\
+87CA xchg ecx, edx\n\
+89C8 mov eax, ecx\n\
+8954DFF0 mov dword ptr [rdi + 8*rbx - 16], edx\n\
+8B54DFF0 mov edx, dword ptr [rdi + 8*rbx - 16]\n\
+C744DFF090EEFEFF mov dword ptr [rdi + 8*rbx - 16], -70000\n\
+B990EEFEFF mov ecx, -70000\n\
+FFC1 inc ecx\n\
+FF44DFF0 inc dword ptr [rdi + 8*rbx - 16]\n\
+FFC9 dec ecx\n\
+FF4CDFF0 dec dword ptr [rdi + 8*rbx - 16]\n\
+F7D1 not ecx\n\
+F754DFF0 not dword ptr [rdi + 8*rbx - 16]\n\
+F7D9 neg ecx\n\
+F75CDFF0 neg dword ptr [rdi + 8*rbx - 16]\n\
+0FC1C8 xadd eax, ecx\n\
+8D44DFF0 lea eax, [rdi + 8*rbx - 16]\n\
+0FB6C1 movzx eax, cl\n\
+0FBE4CDFF0 movsx ecx, byte ptr [rdi + 8*rbx - 16]\n\
+0F4CC1 cmovl eax, ecx\n\
+0F4754DFF0 cmova edx, dword ptr [rdi + 8*rbx - 16]\n\
+0FB744DFF0 movzx eax, word ptr [rdi + 8*rbx - 16]\n\
+0FBFD1 movsx edx, cx\n\
+4801C8 add rax, rcx\n\
+480154DFF0 add qword ptr [rdi + 8*rbx - 16], rdx\n\
+48034CDFF0 add rcx, qword ptr [rdi + 8*rbx - 16]\n\
+488144DFF090EEFEFF add qword ptr [rdi + 8*rbx - 16], -70000\n\
+4809C8 or rax, rcx\n\
+480954DFF0 or qword ptr [rdi + 8*rbx - 16], rdx\n\
+480B4CDFF0 or rcx, qword ptr [rdi + 8*rbx - 16]\n\
+48814CDFF090EEFEFF or qword ptr [rdi + 8*rbx - 16], -70000\n\
+4811C8 adc rax, rcx\n\
+481154DFF0 adc qword ptr [rdi + 8*rbx - 16], rdx\n\
+48134CDFF0 adc rcx, qword ptr [rdi + 8*rbx - 16]\n\
+488154DFF090EEFEFF adc qword ptr [rdi + 8*rbx - 16], -70000\n\
+4819C8 sbb rax, rcx\n\
+481954DFF0 sbb qword ptr [rdi + 8*rbx - 16], rdx\n\
+481B4CDFF0 sbb rcx, qword ptr [rdi + 8*rbx - 16]\n\
+48815CDFF090EEFEFF sbb qword ptr [rdi + 8*rbx - 16], -70000\n\
+4821C8 and rax, rcx\n\
+482154DFF0 and qword ptr [rdi + 8*rbx - 16], rdx\n\
+48234CDFF0 and rcx, qword ptr [rdi + 8*rbx - 16]\n\
+488164DFF090EEFEFF and qword ptr [rdi + 8*rbx - 16], -70000\n\
+4829C8 sub rax, rcx\n\
+482954DFF0 sub qword ptr [rdi + 8*rbx - 16], rdx\n\
+482B4CDFF0 sub rcx, qword ptr [rdi + 8*rbx - 16]\n\
+48816CDFF090EEFEFF sub qword ptr [rdi + 8*rbx - 16], -70000\n\
+4831C8 xor rax, rcx\n\
+483154DFF0 xor qword ptr [rdi + 8*rbx - 16], rdx\n\
+48334CDFF0 xor rcx, qword ptr [rdi + 8*rbx - 16]\n\
+488174DFF090EEFEFF xor qword ptr [rdi + 8*rbx - 16], -70000\n\
+4839C8 cmp rax, rcx\n\
+483954DFF0 cmp qword ptr [rdi + 8*rbx - 16], rdx\n\
+483B4CDFF0 cmp rcx, qword ptr [rdi + 8*rbx - 16]\n\
+48817CDFF090EEFEFF cmp qword ptr [rdi + 8*rbx - 16], -70000\n\
+4885C8 test rax, rcx\n\
+48F744DFF090EEFEFF test qword ptr [rdi + 8*rbx - 16], -70000\n\
+4887CA xchg rcx, rdx\n\
+4889C8 mov rax, rcx\n\
+488954DFF0 mov qword ptr [rdi + 8*rbx - 16], rdx\n\
+488B54DFF0 mov rdx, qword ptr [rdi + 8*rbx - 16]\n\
+48C744DFF090EEFEFF mov qword ptr [rdi + 8*rbx - 16], -70000\n\
+48C7C190EEFEFF mov rcx, -70000\n\
+48FFC1 inc rcx\n\
+48FF44DFF0 inc qword ptr [rdi + 8*rbx - 16]\n\
+48FFC9 dec rcx\n\
+48FF4CDFF0 dec qword ptr [rdi + 8*rbx - 16]\n\
+48F7D1 not rcx\n\
+48F754DFF0 not qword ptr [rdi + 8*rbx - 16]\n\
+48F7D9 neg rcx\n\
+48F75CDFF0 neg qword ptr [rdi + 8*rbx - 16]\n\
+480FC1C8 xadd rax, rcx\n\
+488D44DFF0 lea rax, [rdi + 8*rbx - 16]\n\
+480FB6C1 movzx rax, cl\n\
+480FBE4CDFF0 movsx rcx, byte ptr [rdi + 8*rbx - 16]\n\
+480F4CC1 cmovl rax, rcx\n\
+480F4754DFF0 cmova rdx, qword ptr [rdi + 8*rbx - 16]\n\
+480FB744DFF0 movzx rax, word ptr [rdi + 8*rbx - 16]\n\
+480FBFD1 movsx rdx, cx\n\
+0FC0E0 xadd al, ah\n\
+00CF add bh, cl\n\
+0FBEC7 movsx eax, bh\n\
+4863C1 movsxd rax, ecx\n\
+486354DFF0 movsxd rdx, dword ptr [rdi + 8*rbx - 16]\n\
+51 push rcx\n\
+6A4D push 77\n\
+FF74DFF0 push qword ptr [rdi + 8*rbx - 16]\n\
+5A pop rdx\n\
+8F44DFF0 pop qword ptr [rdi + 8*rbx - 16]\n\
+5C pop rsp\n\
+54 push rsp\n\
+C9 leave\n\
+6698 cbw\n\
+98 cwde\n\
+4898 cdqe\n\
+6699 cwd\n\
+99 cdq\n\
+4899 cqo\n\
+90 nop\n\
+F390 pause\n\
+F30F1EFA endbr64\n\
+0FAEF0 mfence\n\
+0F0B ud2\n\
+0F90C1 seto cl\n\
+0F9344DFF0 setae byte ptr [rdi + 8*rbx - 16]\n\
+0F96C2 setbe dl\n\
+0F9FC4 setg ah\n\
+4C8D150C000000 lea r10, [rip + 12]\n\
+8B050A300000 mov eax, dword ptr [rip + 12298]\n\
+480107 add qword ptr [rdi], rax\n\
+48B88877665544332211 mov rax, 0x1122334455667788\n\
+48890C24 mov qword ptr [rsp], rcx\n\
+87C0 xchg eax, eax\n\
+";

@@ -1,16 +1,10 @@
-ghost use Rattle.std.specs.Prelude.{◌≤◌, length, IfOk};
-ghost use Rattle.gen_input.specs.BuiltFile.{IsShort};
-
 use super::forms::FORMS;
-use crate::translate_line;
+use super::translated;
 use a64_code::decode_word;
 use a64_table::{A64State, ANext, ARow};
 use alu_width::Flags;
-use elf_format::Symbol;
-use elf_read::{Elf, read_elf};
-use ev_graph::{End, List, RowItems, TrapKind};
-use gen_input::build;
-use line_read::read_lines;
+use elf_read::Elf;
+use ev_graph::{End, RowItems, TrapKind};
 use std::alloc::Global;
 use std::test::Fail;
 use x64_decode::decode_one;
@@ -18,6 +12,7 @@ use x64_syntax::Flow;
 use x64_table::{Next, X64State, XRow};
 
 const CODE_AT: u64 = 0x401000;
+
 const WORDS_AT: u64 = 0x410000;
 
 /// The values of reads, in turn.
@@ -30,31 +25,65 @@ const VALUES: [u64; 6] = [
     0x8080_8080_8080_8080,
 ];
 
-/// Registers at the start: rbx is an index, and rsp, rbp and rdi point to cells that may be written.
-const REGISTERS: [[u64; 16]; 2] = [
-    [
-        0x8000_0000_7FFF_FF80, 0xFFFF_FFFF_8000_0001, 0x0000_0001_0000_7FFF, 3, 0x404020, 0x404028, 1, 0x404000, 8, 0x8000,
-        10, 11, 12, 13, 14, 15,
-    ],
-    [
-        0x0000_0000_0000_00FF, 1, 0xFFFF_FFFF_FFFF_FFFF, 3, 0x404020, 0x404028, 0, 0x404000, 0, 0x7F, 0, 0, 0, 0, 0, 0,
-    ],
-];
-
-const FLAGS: [Flags; 2] = [
-    Flags {
+/// Registers and flags at the start: rbx is an index, and rsp, rbp and rdi point to cells that may be written.
+fn starts() -> [([u64; 16], Flags); 2] {
+    let some = Flags {
         cf: true,
         zf: false,
         sf: true,
         of: false,
-    },
-    Flags {
+    };
+    let others = Flags {
         cf: false,
         zf: true,
         sf: false,
         of: true,
-    },
-];
+    };
+    [
+        (
+            [
+                0x8000_0000_7FFF_FF80,
+                0xFFFF_FFFF_8000_0001,
+                0x0000_0001_0000_7FFF,
+                3,
+                0x404020,
+                0x404028,
+                1,
+                0x404000,
+                8,
+                0x8000,
+                10,
+                11,
+                12,
+                13,
+                14,
+                15,
+            ],
+            some,
+        ),
+        (
+            [
+                0xFF,
+                1,
+                0xFFFF_FFFF_FFFF_FFFF,
+                3,
+                0x404020,
+                0x404028,
+                0,
+                0x404000,
+                0,
+                0x7F,
+                0,
+                0,
+                0,
+                0,
+                0,
+                0,
+            ],
+            others,
+        ),
+    ]
+}
 
 /// An access as it is compared: whether it writes, its address, its size and its value.
 type Seen = (bool, u64, u8, u64);
@@ -105,8 +134,9 @@ fn run_line(alloc: Global, elf: &Elf, code: &[u8], start: X64State) -> Result<Ra
     let mut state = start;
     for _ in 0..8 {
         let offset = state.at.wrapping_sub(CODE_AT) as usize;
-        let (instr, length) =
-            decode_one(code.get(offset..).ok_or("outside")?).map_err(|_| "no instruction")?;
+        let (instr, length) = decode_one(code.get(offset..).ok_or("outside")?).map_err(
+            |_| "no instruction",
+        )?;
         let first = x64_table::row(&instr, length, Flow::Plain, &state, elf, None, None);
         let whole = match first {
             XRow::WantsRead(wanted) => {
@@ -169,7 +199,12 @@ fn run_words(alloc: Global, elf: &Elf, words: &[u32], start: A64State) -> Result
                 return Ok(Ran {
                     seen,
                     registers,
-                    flags: [state.regs[19], state.regs[20], state.regs[21], state.regs[22]],
+                    flags: [
+                        state.regs[19],
+                        state.regs[20],
+                        state.regs[21],
+                        state.regs[22],
+                    ],
                     end,
                 });
             }
@@ -199,53 +234,55 @@ fn arm_start(registers: &[u64; 16], flags: Flags) -> A64State {
     }
 }
 
-/// A program whose one thread is a form, and then a return.
-fn program_of(alloc: Global, code: &[u8]) -> Result<Elf, Fail> {
-    if code.len() > 0x1000 {
-        return Err("too much for a test".into());
-    }
-    let mut threads = Vec::new(alloc);
-    threads.push(Symbol {
-        name: List::of(Vec::from_slice(alloc, b"thread_0")?),
-        address: CODE_AT,
-    })?;
-    let file = build(alloc, code, &[0; 64], 0x404000, &threads).map_err(|_| "not built")?;
-    Ok(read_elf(alloc, &file).map_err(|_| "refused")?)
-}
-
-/// The words of the one line of a program, of which there are at most 64 for each instruction.
-fn words_of(alloc: Global, elf: &Elf) -> Result<Vec<u32>, Fail> {
-    let lines = read_lines(alloc, elf).map_err(|_| "not read")?;
-    let mut words = Vec::new(alloc);
-    for line in &lines {
-        words.extend_from_slice(&translate_line(alloc, line.first, line.placed.as_slice())?)?;
-        if words.len() > 64 * line.placed.as_slice().len() {
-            return Err("too many words".into());
+/// The bytes of a form, which its line begins with in hexadecimal digits.
+fn bytes_of(alloc: Global, line: &str) -> Result<Vec<u8>, Fail> {
+    let mut bytes = Vec::new(alloc);
+    let mut high = None;
+    for letter in line.chars() {
+        let Some(digit) = letter.to_digit(16) else {
+            break;
+        };
+        match high {
+            None => high = Some(digit),
+            Some(first) => {
+                bytes.push((16 * (first & 15) + (digit & 15)) as u8)?;
+                high = None;
+            }
         }
     }
-    Ok(words)
+    Ok(bytes)
+}
+
+/// The run of a form with a return behind it, and that of its words.
+fn both_runs(
+    alloc: Global,
+    form: &str,
+    registers: [u64; 16],
+    flags: Flags,
+) -> Result<(Ran, Ran), Fail> {
+    let mut code = bytes_of(alloc, form)?;
+    code.push(0xC3)?;
+    let (elf, words) = translated(alloc, &code)?;
+    let start = X64State {
+        regs: registers,
+        flags,
+        at: CODE_AT,
+    };
+    let wanted = run_line(alloc, &elf, &code, start)?;
+    let found = run_words(alloc, &elf, &words, arm_start(&registers, flags))?;
+    Ok((wanted, found))
 }
 
 #[test]
 fn words_do_what_each_form_does(rt: HostRuntime) -> Result<(), Fail> {
     let alloc = rt.alloc();
-    for form in FORMS {
-        let mut code = Vec::from_slice(alloc, form)?;
-        code.push(0xC3)?;
-        let elf = program_of(alloc, &code)?;
-        let words = words_of(alloc, &elf)?;
-        for (registers, flags) in REGISTERS.iter().zip(FLAGS.iter()) {
-            let start = X64State {
-                regs: *registers,
-                flags: *flags,
-                at: CODE_AT,
-            };
-            let wanted = run_line(alloc, &elf, &code, start)?;
-            let found = run_words(alloc, &elf, &words, arm_start(registers, *flags))?;
-            assert_eq!(rt; found.seen.as_slice(), wanted.seen.as_slice(), "{form:?}");
-            assert_eq!(rt; found.registers, wanted.registers, "{form:?}");
-            assert_eq!(rt; found.flags, wanted.flags, "{form:?}");
-            assert_eq!(rt; found.end, wanted.end, "{form:?}");
+    for form in FORMS.lines() {
+        for (registers, flags) in starts() {
+            let (wanted, found) = both_runs(alloc, form, registers, flags)?;
+            assert_eq!(rt; found.seen.as_slice(), wanted.seen.as_slice(), "{form}");
+            assert_eq!(rt; found.registers, wanted.registers, "{form}");
+            assert_eq!(rt; found.flags, wanted.flags, "{form}");
+            assert_eq!(rt; found.end, wanted.end, "{form}");
         }
     }
     Ok(())
