@@ -333,7 +333,7 @@ fn failing_calls_are_told(rt: HostRuntime) -> Result<(), Fail> {
     for (shelf_call, sink_call, wanted, kept, taken) in [
         (0, 9, Status::ReadFailed, 0, 0),
         (1, 9, Status::WriteFailed, 6_340, 0),
-        (9, 0, Status::OutFailed, 12_656, LEAST_LINE.len() / 2),
+        (9, 0, Status::OutFailed, 12_680, LEAST_LINE.len() / 2),
     ] {
         let mut shelf = shelf_with(alloc, least_file(alloc)?, &[shelf_call])?;
         let mut out = MemSink::new(alloc, Vec::from_slice(alloc, &[sink_call])?);
