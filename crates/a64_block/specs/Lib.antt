@@ -2,3 +2,4 @@ pub mod Registers
 pub mod Renamed
 pub mod Blocks
 pub mod Conditions
+pub mod Breaks

@@ -12,3 +12,5 @@ pub mod Makes
 pub mod NumberedLemmas
 pub mod Ticks
 pub mod Results
+pub mod Banks
+pub mod Lists

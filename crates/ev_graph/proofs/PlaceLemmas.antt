@@ -1,5 +1,5 @@
--- What stands at a place of a list, and of its parts.
-use Rattle.std.proofs.Common.{◌≡◌, ◌≤◌, ◌<◌, ◌+◌, ◌-◌, ℕ, zero, suc, List, [], ◌∷◌, ◌⊎◌, inl, inr, Some, None, take, drop, refl, ap, arith}
+-- What stands at a place of a list, of its parts, and of a longer one.
+use Rattle.std.proofs.Common.{◌≡◌, ◌≤◌, ◌<◌, ◌+◌, ◌-◌, ℕ, zero, suc, List, [], ◌∷◌, ◌++◌, length, ◌⊎◌, inl, inr, Some, None, take, drop, refl, ap, arith}
 use Rattle.std.specs.List.{slice_get, slice_range}
 
 pub get-drop : {A : Type 0} (xs : List A) (i k : ℕ) → slice_get (drop i xs) k ≡ slice_get xs (i + k)
@@ -37,3 +37,22 @@ range_to {A} xs i j k x after before here =
     let e : i + (k - i) ≡ k = omega arith in
     let moved_to : slice_get xs (i + (k - i)) ≡ slice_get xs k = ap (slice_get xs) e in
     cc
+
+pub get-append : {A : Type 0} (xs ys : List A) (i : ℕ) (x : A) → slice_get xs i ≡ Some x → slice_get (xs ++ ys) i ≡ Some x
+get-append [] ys i x here = absurd (cc)
+get-append (z ∷ xs) ys zero x here = here
+get-append (z ∷ xs) ys (suc i) x here = get-append xs ys i x here
+
+pub get-push : {A : Type 0} (xs : List A) (y : A) → slice_get (xs ++ y ∷ []) (length xs) ≡ Some y
+get-push [] y = refl
+get-push (x ∷ xs) y = get-push xs y
+
+-- after a push, what stands at a place stood there before or is the last
+pub push_cases : {A : Type 0} (xs : List A) (y : A) (i : ℕ) (x : A) → slice_get (xs ++ y ∷ []) i ≡ Some x → (slice_get xs i ≡ Some x) ⊎ ((i ≡ length xs) × (y ≡ x))
+push_cases [] y zero x here = inr (refl, (cc))
+push_cases [] y (suc i) x here = absurd (cc)
+push_cases (z ∷ xs) y zero x here = inl here
+push_cases (z ∷ xs) y (suc i) x here = elim (push_cases xs y i x here) [
+  | inl before ↦ inl before
+  | inr last ↦ inr (ap (λ k. suc k) last.0, last.1)
+]

@@ -2,8 +2,9 @@
 use Rattle.std.proofs.Common.{◌≡◌, ◌≤◌, ◌+◌, ℕ, List, [], ◌∷◌, ◌++◌, length, Bool, true, false, inl, inr, Some, refl, sym, ap, ◌∙◌, subst, cond, nat_eq, take, arith}
 use Rattle.std.specs.List.{slice_get, list_any}
 use Rattle.ev_graph.specs.Places.{StandsIn}
+use Rattle.ev_graph.proofs.PlaceLemmas.{get-append, get-push, push_cases}
 use Rattle.graph_reach.specs.Nodes.{AddsOne, Adds}
-use Rattle.graph_reach.proofs.Places.{get-append, get-push, push_cases, front_more, from_front, in_front, front_past}
+use Rattle.graph_reach.proofs.Places.{front_more, from_front, in_front, front_past}
 use Rattle.graph_reach.proofs.Members.{stands_from_any}
 
 adds_absent : (old : List ℕ) (k : ℕ) → AddsOne old k (old ++ k ∷ [])

@@ -5,12 +5,13 @@ use Rattle.std.proofs.lemmas.Option.{slice_get_within, slice_get-get_or, get_or_
 use Rattle.std.proofs.lemmas.List.{length-replicate, take_more}
 use Rattle.std.proofs.lemmas.Bool.Decides.{nat_tests}
 use Rattle.ev_graph.specs.Places.{StandsIn, IsDistinct}
+use Rattle.ev_graph.proofs.PlaceLemmas.{get-append}
 use Rattle.graph_reach.specs.Reach.{Reached, From, IsFirst}
 use Rattle.graph_reach.specs.Reach.Reached.{start, step}
 use Rattle.graph_reach.specs.Nodes.{Adds, AddsOne}
 use Rattle.graph_reach.specs.Sources.{source_of}
 use Rattle.graph_reach.specs.Searching.{AreFollowed, Spreads, AreFirst}
-use Rattle.graph_reach.proofs.Places.{kept_back, kept_longer, front_past, get-append, append_back, replicated}
+use Rattle.graph_reach.proofs.Places.{kept_back, kept_longer, front_past, append_back, replicated}
 use Rattle.graph_reach.proofs.Members.{stands_from_any, any_from_stands}
 use Rattle.graph_reach.proofs.Searches.{has_reached}
 

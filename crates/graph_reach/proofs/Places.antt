@@ -1,29 +1,10 @@
--- What stands in a list after one has been put behind another, and in its front.
+-- What stands in a list that is longer, and in the front of one.
 use Rattle.std.proofs.Common.{◌≡◌, ◌<◌, ◌≤◌, ◌+◌, ℕ, zero, suc, List, [], ◌∷◌, ◌++◌, length, ◌⊎◌, inl, inr, Some, ◌-◌, take, replicate, refl, sym, ap, ◌∙◌, get_or, arith}
 use Rattle.std.specs.List.{slice_get}
 use Rattle.std.proofs.lemmas.Option.{slice_get_within, slice_get-get_or, get_or_from_slice_get}
 use Rattle.std.proofs.lemmas.List.{take_more, length-replicate, get_or-replicate}
 use Rattle.ev_graph.specs.Places.{StandsIn}
 use Rattle.ev_graph.proofs.PlaceLemmas.{get-take}
-
-pub get-append : {A : Type 0} (xs ys : List A) (i : ℕ) (x : A) → slice_get xs i ≡ Some x → slice_get (xs ++ ys) i ≡ Some x
-get-append [] ys i x here = absurd (cc)
-get-append (z ∷ xs) ys zero x here = here
-get-append (z ∷ xs) ys (suc i) x here = get-append xs ys i x here
-
-pub get-push : {A : Type 0} (xs : List A) (y : A) → slice_get (xs ++ y ∷ []) (length xs) ≡ Some y
-get-push [] y = refl
-get-push (x ∷ xs) y = get-push xs y
-
--- after a push, what stands at a place stood there before or is the last
-pub push_cases : {A : Type 0} (xs : List A) (y : A) (i : ℕ) (x : A) → slice_get (xs ++ y ∷ []) i ≡ Some x → (slice_get xs i ≡ Some x) ⊎ ((i ≡ length xs) × (y ≡ x))
-push_cases [] y zero x here = inr (refl, (cc))
-push_cases [] y (suc i) x here = absurd (cc)
-push_cases (z ∷ xs) y zero x here = inl here
-push_cases (z ∷ xs) y (suc i) x here = elim (push_cases xs y i x here) [
-  | inl before ↦ inl before
-  | inr last ↦ inr (ap (λ k. suc k) last.0, last.1)
-]
 
 -- what stands in the front of a list stands there in the list
 pub from_front : {A : Type 0} (n : ℕ) (xs : List A) (i : ℕ) (x : A) → slice_get (take n xs) i ≡ Some x → (i < n) × (slice_get xs i ≡ Some x)

@@ -2,9 +2,9 @@
 use Rattle.std.proofs.Common.{◌≡◌, ◌-◌, ℕ, zero, suc, List, [], ◌∷◌, ◌++◌, length, inl, inr, Result, Ok, Err, OnErr, refl, ap, ◌∙◌, subst, take, drop, arith, length-append, length-drop}
 use Rattle.std.proofs.lemmas.List.{drop-append-le, take-append-le, map-append}
 use Rattle.std.proofs.Math.Seq.{drop-append_seam, take-length}
+use Rattle.ev_graph.proofs.PlaceLemmas.{push_cases}
 use Rattle.graph_reach.specs.declared.rows.Span.{Span}
 use Rattle.graph_reach.specs.Spans.{part_of, rows_in, IsSpan, AreSpans}
-use Rattle.graph_reach.proofs.Places.{push_cases}
 
 part_kept : (targets more : List ℕ) (span : Span) → IsSpan targets span → part_of (targets ++ more) span ≡ part_of targets span
 part_kept targets more span is =

@@ -6,13 +6,14 @@ use Rattle.std.proofs.lemmas.Option.{slice_get_within, slice_get-map}
 use Rattle.std.proofs.lemmas.List.{map-append, map-set}
 use Rattle.std.proofs.lemmas.Bool.Decides.{nat_tests}
 use Rattle.ev_graph.specs.Places.{StandsIn, IsDistinct}
+use Rattle.ev_graph.proofs.PlaceLemmas.{get-append, get-push, push_cases}
 use Rattle.graph_reach.specs.Reach.{Reached, From}
 use Rattle.graph_reach.specs.Reach.Reached.{start, step}
 use Rattle.graph_reach.specs.Rows.{row_of}
 use Rattle.std.specs.Option.{option_map}
 use Rattle.graph_reach.specs.Backwards.{IsTurned, IsClosed, lists_of, row_beside}
 use Rattle.graph_reach.specs.Turning.{AreEmpty, AddsAt, AddsInto, TurnedUpTo}
-use Rattle.graph_reach.proofs.Places.{get-append, get-push, push_cases, front_more, from_front, in_front, front_past}
+use Rattle.graph_reach.proofs.Places.{front_more, from_front, in_front, front_past}
 use Rattle.graph_reach.proofs.Members.{stands_from_any, any_from_stands}
 
 get-set_same : {A : Type 0} (xs : List A) (i : ℕ) (y : A) → i < length xs → slice_get (set xs i y) i ≡ Some y

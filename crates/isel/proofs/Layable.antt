@@ -7,6 +7,7 @@ use Rattle.std.proofs.lemmas.List.{map-append}
 use Rattle.std.proofs.lemmas.Bool.{eqb-true}
 use Rattle.ev_graph.specs.declared.events.TrapKind.{TrapKind}
 use Rattle.ev_graph.specs.declared.events.TrapKind.TheVariants as kinds
+use Rattle.behavior.proofs.Lists.{all_append}
 use Rattle.limm_ir.specs.Costs.{quarter_of, quarters_not}
 use Rattle.limm_ir.specs.Conditions.{Known, Unset, Set, Constant, IsExtended, HasConstant, InRange, IsWell, learn}
 use Rattle.limm_ir.specs.declared.block.IrEnd.{IrEnd}
@@ -22,9 +23,10 @@ use Rattle.a64_code.specs.declared.instr.A64.{A64}
 use Rattle.a64_code.specs.declared.instr.A64.TheVariants as words
 use Rattle.a64_code.specs.Ranges.{IsRegister, IsOperand, IsEncodable}
 use Rattle.a64_table.specs.Rows.{IsForward}
+use Rattle.a64_block.specs.Breaks.{break_of}
 use Rattle.a64_block.specs.Conditions.{StaysInside, EndsOnRegisters, IsLayable, a64_skip, some_register}
 use Rattle.a64_block.specs.Renamed.{renamed, renamed_end}
-use Rattle.isel.specs.Groups.{last_bit, trap_number, quarter_word, upper_words, number_words, compare_words, op_words, group_of, selected, selected_end}
+use Rattle.isel.specs.Groups.{last_bit, quarter_word, upper_words, number_words, compare_words, op_words, group_of, selected, selected_end}
 
 -- words over registers that can be laid out, whatever comes behind them
 abbrev Lays : List (A64 XReg) → Type 0
@@ -33,11 +35,6 @@ Lays ws = AllByRecursion IsEncodable ws × AllByRecursion IsForward ws × StaysI
 -- the words of a group, each number in some register
 abbrev LaysOut : List (A64 ℕ) → Type 0
 LaysOut ws = Lays (map (renamed some_register) ws)
-
--- a property of the elements of both lists
-all_append : {A : Type 0} (P : A → Type 0) (xs ys : List A) → AllByRecursion P xs → AllByRecursion P ys → AllByRecursion P (xs ++ ys)
-all_append P [] ys first second = second
-all_append P (x ∷ xs) ys first second = (first.0, all_append P xs ys first.1 second)
 
 -- no branch leads beyond joined words
 inside_append : (xs ys : List (A64 XReg)) → StaysInside xs → StaysInside ys → StaysInside (xs ++ ys)
@@ -150,7 +147,7 @@ copy_lays : (d n : ℕ) → IsRegister (some_register d) → LaysOut (words.Orr 
 copy_lays d n named = single (words.Orr true d 20 n 0 0) (named, inr refl, operand n, no_shift) tt refl
 
 -- a trap has a number that BRK has
-trap_lays : (kind : TrapKind) → (1 ≤ trap_number kind) × (trap_number kind ≤ 4)
+trap_lays : (kind : TrapKind) → (1 ≤ break_of kind) × (break_of kind ≤ 4)
 trap_lays kinds.BadAccess = (omega arith, omega arith)
 trap_lays kinds.Divide = (omega arith, omega arith)
 trap_lays kinds.Invalid = (omega arith, omega arith)

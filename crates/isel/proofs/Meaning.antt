@@ -17,6 +17,7 @@ use Rattle.behavior.proofs.SeenLemmas.{sees-lowered}
 use Rattle.behavior.proofs.Beside.{Beside, give, spend, act, beside_keeps}
 use Rattle.behavior.proofs.Ticks.{earn_many}
 use Rattle.behavior.proofs.KeepsLemmas.{keeps_then}
+use Rattle.behavior.proofs.Banks.{put_here}
 use Rattle.limm_ir.specs.Values.{rmw_value}
 use Rattle.limm_ir.specs.Costs.{step_cost}
 use Rattle.limm_ir.specs.Steps.{IrState, of, set, ir_step, ir_steps}
@@ -38,11 +39,11 @@ use Rattle.a64_table.specs.Values.{low, shifted, holds, subs_flags}
 use Rattle.a64_table.specs.Rows.{gets, jumps, breaks, ahead, a64_words}
 use Rattle.a64_table.proofs.CallerLemmas.{words-append}
 use Rattle.a64_block.specs.Registers.{numbers}
+use Rattle.a64_block.specs.Breaks.{break_of}
 use Rattle.a64_block.specs.Blocks.{a64_end, a64_block}
-use Rattle.isel.specs.Groups.{last_bit, trap_number, rmw_word, group_of, selected, selected_end}
+use Rattle.isel.specs.Groups.{last_bit, rmw_word, group_of, selected, selected_end}
 use Rattle.isel.specs.Ranges.{Fits}
 use Rattle.isel.specs.Selected.{SameNumbered, MeansSteps}
-use Rattle.isel.proofs.Banks.{put_here}
 use Rattle.isel.proofs.Numbered.{Numbered, Moved, number_is, reads_temp, temp_fits, reads_reg, reg_fits, reads_flag, flag_fits, kept, scratch, wrote_temp, wrote_reg, wrote_flag}
 use Rattle.isel.proofs.Values.{low_is, copied, size_fits, not_equal}
 use Rattle.isel.proofs.Operations.{Does, only_set, computes, op_step}
@@ -163,7 +164,7 @@ module _ (may : Permission) (known : ℕ → Known) (i : IrState) (s : AState) (
       (act (λ v lt. ap (λ n. lowered (items.Output (record { value = n; place = 0 }) ∷ [])) (here.same.regs 7 (omega arith))) (λ v lt. give (both-go (refl, kept known i s here s.nzcv))))
 
   -- the trap of a kind
-  trap_step : (kind : TrapKind) (next : Done → Tree (Next (ℕ × AState))) → kind ≢ kinds.BadAccess → Does (know None Set known) 0 (traps kind) (breaks (trap_number kind) then next)
+  trap_step : (kind : TrapKind) (next : Done → Tree (Next (ℕ × AState))) → kind ≢ kinds.BadAccess → Does (know None Set known) 0 (traps kind) (breaks (break_of kind) then next)
   trap_step kinds.BadAccess next apart = absurd (apart refl)
   trap_step kinds.Divide next apart = give both-stop
   trap_step kinds.Invalid next apart = give both-stop
@@ -178,7 +179,7 @@ module _ (may : Permission) (known : ℕ → Known) (i : IrState) (s : AState) (
       spend {less = 1} (omega arith) (rw test (by (of i t == 0)))
     where
       by : (b : Bool) → Does (know None Set known) 1 (if b then goes i else traps kind)
-          ((if b then jumps (pos 2) s.nzcv else jumps (pos 1) s.nzcv) then (λ d. a64_words numbers may (at + 4) (words.Brk (trap_number kind) ∷ []) (ahead d.distance) (after numbers None d s)))
+          ((if b then jumps (pos 2) s.nzcv else jumps (pos 1) s.nzcv) then (λ d. a64_words numbers may (at + 4) (words.Brk (break_of kind) ∷ []) (ahead d.distance) (after numbers None d s)))
       by true = give (both-go (refl, kept known i s here s.nzcv))
       by false = spend {less = 0} (omega arith) (trap_step kind (λ d. a64_words numbers may (at + 4 + 4) [] (ahead d.distance) (after numbers None d (record { regs = s.regs; nzcv = s.nzcv }))) apart)
 

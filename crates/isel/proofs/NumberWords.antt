@@ -8,6 +8,7 @@ use Rattle.behavior.specs.Seen.{lowered}
 use Rattle.behavior.specs.Kept.{SameNext, both-go}
 use Rattle.behavior.proofs.SeenLemmas.{sees-lowered}
 use Rattle.behavior.proofs.Beside.{give, spend, more_credit}
+use Rattle.behavior.proofs.Banks.{put_here}
 use Rattle.word_arith.specs.Bits.{bit, insert}
 use Rattle.limm_ir.specs.Costs.{quarter_of, quarters_not, number_cost}
 use Rattle.limm_ir.specs.Steps.{IrState, set}
@@ -20,7 +21,6 @@ use Rattle.a64_table.specs.Values.{low}
 use Rattle.a64_table.specs.Rows.{a64_words}
 use Rattle.a64_block.specs.Registers.{numbers}
 use Rattle.isel.specs.Groups.{quarter_word, upper_words, number_words}
-use Rattle.isel.proofs.Banks.{put_here}
 use Rattle.isel.proofs.Numbered.{Numbered, Moved, number_is, scratch, holds_temp}
 use Rattle.isel.proofs.Operations.{Does}
 

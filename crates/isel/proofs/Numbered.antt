@@ -4,6 +4,7 @@ use Rattle.std.specs.Prelude.{if◌then◌else◌}
 use Rattle.std.proofs.lemmas.Bool.{eqb-true}
 use Rattle.std.proofs.lemmas.Bool.Decides.{nat_tests}
 use Rattle.behavior.specs.Acts.{put}
+use Rattle.behavior.proofs.Banks.{put_same, put_fit, put_other}
 use Rattle.limm_ir.specs.Steps.{IrState, of, set}
 use Rattle.limm_ir.specs.Conditions.{Known, Set, Constant, IsSet, know}
 use Rattle.limm_ir.specs.declared.step.Temp.{Temp}
@@ -11,7 +12,6 @@ use Rattle.a64_table.specs.declared.state.Nzcv.{Nzcv}
 use Rattle.a64_table.specs.State.{AState, value}
 use Rattle.a64_block.specs.Registers.{numbers}
 use Rattle.isel.specs.Selected.{SameNumbered}
-use Rattle.isel.proofs.Banks.{put_same, put_fit, put_other}
 
 -- numbers hold what registers, flags and the temporaries that are set hold, and what is known of temporaries is so
 pub record Numbered (known : ℕ → Known) (i : IrState) (s : AState) : Type 0 where

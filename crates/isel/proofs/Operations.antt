@@ -8,6 +8,7 @@ use Rattle.behavior.specs.Acts.{put, Permission, goes}
 use Rattle.behavior.specs.Seen.{lowered}
 use Rattle.behavior.specs.Kept.{SameNext, both-go}
 use Rattle.behavior.proofs.Beside.{Beside, give, spend}
+use Rattle.behavior.proofs.Banks.{put_here}
 use Rattle.word_arith.specs.Bits.{bit}
 use Rattle.word_arith.specs.Signed.{signed}
 use Rattle.word_arith.specs.ArmWords.{bitfield_move, lslv, lsrv, asrv, rorv, udiv, sdiv, subs_value}
@@ -27,7 +28,6 @@ use Rattle.a64_table.specs.Values.{low, shifted, holds, subs_flags, a64_value}
 use Rattle.a64_table.specs.Rows.{computes_or, a64_act, a64_result, ahead, a64_words}
 use Rattle.a64_block.specs.Registers.{numbers}
 use Rattle.isel.specs.Groups.{last_bit, compare_words, op_words}
-use Rattle.isel.proofs.Banks.{put_here}
 use Rattle.isel.proofs.Numbered.{Numbered, Moved, number_is, reads_temp, temp_fits, scratch, wrote_temp}
 use Rattle.isel.proofs.Values.{low_is, plain, add_is, sub_is, and_is, or_is, xor_is, both_is, shr_fits, ror_fits, high_fits, high_signed_fits, udiv_fits, sdiv_fits, bit_fits, zero_ext_fits, not_equal, at_least, signed_at_least, compared}
 

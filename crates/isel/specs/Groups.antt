@@ -1,7 +1,5 @@
 -- The group of words that stands for each step.
 use Rattle.std.specs.Prelude.{ℕ, ◌+◌, ◌-◌, ◌*◌, ◌%◌, ◌^◌, ◌==◌, nat_le, pos, true, List, [], ◌∷◌, ◌++◌, if◌then◌else◌}
-use Rattle.ev_graph.specs.declared.events.TrapKind.{TrapKind}
-use Rattle.ev_graph.specs.declared.events.TrapKind.TheVariants as traps
 use Rattle.limm_ir.specs.Costs.{quarter_of, quarters_not}
 use Rattle.limm_ir.specs.Conditions.{Known, Unset, Set, Constant, learn}
 use Rattle.limm_ir.specs.declared.block.IrEnd.{IrEnd}
@@ -17,6 +15,7 @@ use Rattle.limm_ir.specs.declared.step.IrStep.TheVariants as steps
 use Rattle.limm_ir.specs.declared.step.Temp.{Temp}
 use Rattle.a64_code.specs.declared.instr.A64.{A64}
 use Rattle.a64_code.specs.declared.instr.A64.TheVariants as words
+use Rattle.a64_block.specs.Breaks.{break_of}
 use Rattle.a64_block.specs.declared.block.AEnd.{AEnd}
 use Rattle.a64_block.specs.declared.block.AEnd.TheVariants as a_ends
 
@@ -84,14 +83,6 @@ barrier_word fences.Frm = words.DmbLd
 barrier_word fences.Fww = words.DmbSt
 barrier_word fences.Fsc = words.DmbFull
 
--- the number of a trap's BRK; no step traps as an access that is not allowed
-abbrev pub trap_number : TrapKind → ℕ
-trap_number traps.BadAccess = 4
-trap_number traps.Divide = 1
-trap_number traps.Invalid = 2
-trap_number traps.BadReturn = 3
-trap_number traps.BadJump = 4
-
 -- the words of a step, by the last bit that an extension by a temporary keeps
 abbrev pub group_of : (last : ℕ → ℕ) → IrStep → List (A64 ℕ)
 group_of last (steps.Const t v) = number_words (number_of t) v
@@ -108,7 +99,7 @@ group_of last (steps.Cas t a e v size place) = copy_word (number_of t) (number_o
 group_of last (steps.Fence f) = barrier_word f ∷ []
 group_of last steps.Input = words.Svc 1 ∷ []
 group_of last steps.Output = words.Svc 2 ∷ []
-group_of last (steps.TrapIf t kind) = words.Cbz true (number_of t) (pos 2) ∷ words.Brk (trap_number kind) ∷ []
+group_of last (steps.TrapIf t kind) = words.Cbz true (number_of t) (pos 2) ∷ words.Brk (break_of kind) ∷ []
 
 -- the last bit of so many bytes, where they are known; bit 63 where they are not
 abbrev pub last_bit : Known → ℕ

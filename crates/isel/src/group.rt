@@ -1,12 +1,13 @@
 ghost use Rattle.std.specs.Prelude.{◌≡◌, ◌+◌, ◌*◌, ◌<◌, ◌^◌, ◌++◌, OnOk};
 ghost use Rattle.limm_ir.specs.Costs.{quarter_of, quarters_not};
-ghost use Rattle.isel.specs.Groups.{number_of, quarter_word, upper_words, number_words, compare_words, copy_word, op_words, rmw_word, barrier_word, trap_number, group_of};
+ghost use Rattle.isel.specs.Groups.{number_of, quarter_word, upper_words, number_words, compare_words, copy_word, op_words, rmw_word, barrier_word, group_of};
 ghost use Rattle.isel.specs.Ranges.{IsSmall, HasSmall, Fits};
 ghost use Rattle.isel.specs.LastBits.{kept_bit};
 
 use crate::last_bits::LastBits;
+use a64_block::break_of;
 use a64_code::A64;
-use ev_graph::{NoMemory, TrapKind};
+use ev_graph::NoMemory;
 use limm_ir::{IrFence, IrOp, IrStep, RmwOp, Temp};
 
 /// The number that reads as zero.
@@ -65,7 +66,7 @@ pub(crate) fn push_group(
         IrStep::Output => words.push(A64::Svc(2))?,
         IrStep::TrapIf(t, kind) => {
             words.push(A64::Cbz(true, number_of(t), 2))?;
-            words.push(A64::Brk(trap_number(kind)))?;
+            words.push(A64::Brk(break_of(kind)))?;
         }
     }
     Ok(())
@@ -221,17 +222,5 @@ fn barrier(fence: IrFence) -> A64<u32>
         IrFence::Frm => A64::DmbLd,
         IrFence::Fww => A64::DmbSt,
         IrFence::Fsc => A64::DmbFull,
-    }
-}
-
-/// The number of a trap's `BRK`.
-fn trap_number(kind: TrapKind) -> u16
-    ensures { result ≡ trap_number kind }
-{
-    match kind {
-        TrapKind::Divide => 1,
-        TrapKind::Invalid => 2,
-        TrapKind::BadReturn => 3,
-        TrapKind::BadJump | TrapKind::BadAccess => 4,
     }
 }

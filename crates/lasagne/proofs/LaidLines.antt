@@ -3,6 +3,7 @@ use Rattle.std.proofs.Common.{◌≡◌, ℕ, zero, suc, ◌+◌, ◌*◌, ◌^�
 use Rattle.std.specs.Prelude.{◌⊎◌}
 use Rattle.std.specs.List.{AllByRecursion}
 use Rattle.std.proofs.lemmas.List.{append-nil}
+use Rattle.behavior.proofs.Lists.{all_append}
 use Rattle.x64_syntax.specs.declared.placed.Placed.{Placed}
 use Rattle.line_read.specs.declared.line.Line.{Line}
 use Rattle.line_read.specs.Line.{Code, IsBuiltLine}
@@ -10,10 +11,6 @@ use Rattle.line_read.specs.Lines.{IsRead, HasLine}
 use Rattle.straight_line.specs.Carried.{CarriesLine}
 use Rattle.lasagne.specs.declared.laid.LaidLine.{LaidLine}
 use Rattle.lasagne.specs.Laid.{CarryEach, BeginsWithin, AreLaid, HasLaid, IsLaidAt, BeginLaid}
-
-pub all_append : {A : Type 0} (P : A → Type 0) (xs : List A) (y : A) → AllByRecursion P xs → P y → AllByRecursion P (xs ++ y ∷ [])
-all_append P [] y all one = (one, tt)
-all_append P (x ∷ xs) y all one = (all.0, all_append P xs y all.1 one)
 
 pub all_wider : {A : Type 0} (P Q : A → Type 0) → ((x : A) → P x → Q x) → (xs : List A) → AllByRecursion P xs → AllByRecursion Q xs
 all_wider P Q wider [] all = tt
@@ -44,9 +41,9 @@ more_laid lines laid words own line l are first start carries = record {
       subst (λ ws. CarryEach code ws (lines ++ line ∷ []) (laid ++ l ∷ [])) (sym parts) (carry_append code (words ++ (own ++ after)) lines laid line l old first new);
   within =
       let long = length-append words own in
-      all_append (BeginsWithin (length (words ++ own))) laid l
+      all_append (BeginsWithin (length (words ++ own))) laid (l ∷ [])
       (all_wider (BeginsWithin (length words)) (BeginsWithin (length (words ++ own))) (λ k low. omega (arith, low, long)) laid are.within)
-      (omega (arith, start, long));
+      (omega (arith, start, long), tt);
 }
 
 -- a line that was read is laid

@@ -2,13 +2,13 @@
 use Rattle.std.proofs.Common.{◌≡◌, ℕ, ◌+◌, ◌<◌, ◌≤◌, ◌==◌, List, [], ◌∷◌, ◌++◌, append_assoc, refl, ap, ◌∙◌, arith}
 use Rattle.std.specs.Prelude.{if◌then◌else◌}
 use Rattle.behavior.specs.Acts.{Bank, put, Permission}
+use Rattle.behavior.proofs.Banks.{put_here, put_other}
 use Rattle.limm_ir.specs.Costs.{no_cost}
 use Rattle.limm_ir.specs.Values.{op_value}
 use Rattle.limm_ir.specs.Steps.{IrState, ir_steps}
 use Rattle.limm_ir.specs.declared.step.IrStep.{IrStep}
 use Rattle.limm_ir.specs.declared.step.IrStep.TheVariants as steps
 use Rattle.lift_alu.specs.Formulas.{Formula, Kept, Number, Register, Flag, Operation, Choice, temp, size, place, computes, value}
-use Rattle.lift_alu.proofs.Banks.{put_here, put_other}
 
 -- the temporaries behind the steps of a formula, where registers and flags are those of a state
 abbrev pub temps_behind : (next : ℕ) → Formula → IrState → Bank → Bank

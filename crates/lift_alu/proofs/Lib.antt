@@ -1,7 +1,6 @@
 mod Words
 mod OperandValues
 mod FlagValues
-mod Banks
 mod Computed
 mod Rules
 mod KeptFormulas

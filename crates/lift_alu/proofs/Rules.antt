@@ -9,6 +9,7 @@ use Rattle.behavior.specs.Kept.{SameNext}
 use Rattle.behavior.proofs.Paths.{then-assoc}
 use Rattle.behavior.proofs.Beside.{Beside}
 use Rattle.behavior.proofs.ActsLemmas.{beside_reads, beside_writes}
+use Rattle.behavior.proofs.Banks.{put_here, put_other, put_same, put_fit}
 use Rattle.x64_table.specs.State.{Thread}
 use Rattle.limm_ir.specs.Costs.{no_cost}
 use Rattle.limm_ir.specs.Steps.{IrState, set, ir_steps}
@@ -18,7 +19,6 @@ use Rattle.limm_ir.specs.declared.step.IrStep.{IrStep}
 use Rattle.limm_ir.specs.declared.step.IrStep.TheVariants as steps
 use Rattle.lift_alu.specs.Formulas.{Formula, Kept, temp, size, place, computes, value, Lifting, keeps, sets_register, sets_flag, loads, stores}
 use Rattle.lift_alu.specs.Meant.{SameThread}
-use Rattle.lift_alu.proofs.Banks.{put_here, put_other, put_same, put_fit}
 use Rattle.lift_alu.proofs.Computed.{temps_behind, computed, computes_then, IsKeptBelow, temps_before, place_below, value_placed}
 
 -- a later state: the temporaries before the next one are those of the state

@@ -1,6 +1,7 @@
 -- The steps of an instruction that is lifted so far make no locked access.
 use Rattle.std.proofs.Common.{ℕ, ◌+◌, List, [], ◌∷◌, ◌++◌}
 use Rattle.std.specs.List.{AllByRecursion}
+use Rattle.behavior.proofs.Lists.{all_append}
 use Rattle.x64_syntax.specs.declared.instr.AluOp.{AluOp}
 use Rattle.x64_syntax.specs.declared.instr.AluOp.TheVariants as op
 use Rattle.x64_syntax.specs.declared.instr.Instr.{Instr}
@@ -15,19 +16,15 @@ use Rattle.lift_alu.specs.Formulas.{Formula, Kept, Number, Register, Flag, Opera
 use Rattle.lift_alu.specs.Flags.{sets_result, sets_flags}
 use Rattle.lift_alu.specs.Lifted.{Place, InRegister, InMemory, Nowhere, in_memory, puts, fetches, finds, reads_there, writes_there, puts_there, moves, puts_operand, changes, flags_of, compares, combines, lifts_alu, takes_address, exchanges, adds_exchanged, pushes, pops, leaves_frame, chooses, lifts}
 
-all_append : (xs ys : List IrStep) → AllByRecursion IsUnlocked xs → AllByRecursion IsUnlocked ys → AllByRecursion IsUnlocked (xs ++ ys)
-all_append [] ys one two = two
-all_append (x ∷ xs) ys one two = (one.0, all_append xs ys one.1 two)
-
 computes_unlocked : (next : ℕ) (e : Formula) → AllByRecursion IsUnlocked (computes next e)
 computes_unlocked next (Kept t) = tt
 computes_unlocked next (Number n) = (tt, tt)
 computes_unlocked next (Register r) = (tt, tt)
 computes_unlocked next (Flag f) = (tt, tt)
-computes_unlocked next (Operation o a b) = all_append (computes next a) _ (computes_unlocked next a) (all_append (computes (next + size a) b) _ (computes_unlocked (next + size a) b) (tt, tt))
+computes_unlocked next (Operation o a b) = all_append IsUnlocked (computes next a) _ (computes_unlocked next a) (all_append IsUnlocked (computes (next + size a) b) _ (computes_unlocked (next + size a) b) (tt, tt))
 computes_unlocked next (Choice c a b) =
-    all_append (computes next c) _ (computes_unlocked next c) (all_append (computes (next + size c) a) _ (computes_unlocked (next + size c) a)
-    (all_append (computes (next + size c + size a) b) _ (computes_unlocked (next + size c + size a) b) (tt, tt)))
+    all_append IsUnlocked (computes next c) _ (computes_unlocked next c) (all_append IsUnlocked (computes (next + size c) a) _ (computes_unlocked (next + size c) a)
+    (all_append IsUnlocked (computes (next + size c + size a) b) _ (computes_unlocked (next + size c + size a) b) (tt, tt)))
 
 -- whatever the next temporary is
 abbrev Unlocked : Lifting → Type 0
@@ -41,19 +38,19 @@ done_unlocked next = tt
 
 keeps_unlocked : (e : Formula) (rest : Formula → Lifting) → UnlockedBy rest → Unlocked (keeps e rest)
 unfolding keeps
-keeps_unlocked e rest later next = all_append (computes next e) _ (computes_unlocked next e) (later _ (next + size e))
+keeps_unlocked e rest later next = all_append IsUnlocked (computes next e) _ (computes_unlocked next e) (later _ (next + size e))
 
 register_unlocked : (r : ℕ) (e : Formula) (rest : Lifting) → Unlocked rest → Unlocked (sets_register r e rest)
 unfolding sets_register
-register_unlocked r e rest later next = all_append (computes next e) _ (computes_unlocked next e) (tt, later (next + size e))
+register_unlocked r e rest later next = all_append IsUnlocked (computes next e) _ (computes_unlocked next e) (tt, later (next + size e))
 
 flag_unlocked : (f : ℕ) (e : Formula) (rest : Lifting) → Unlocked rest → Unlocked (sets_flag f e rest)
 unfolding sets_flag
-flag_unlocked f e rest later next = all_append (computes next e) _ (computes_unlocked next e) (tt, later (next + size e))
+flag_unlocked f e rest later next = all_append IsUnlocked (computes next e) _ (computes_unlocked next e) (tt, later (next + size e))
 
 loads_unlocked : (at bytes : ℕ) (address : Formula) (rest : Formula → Lifting) → UnlockedBy rest → Unlocked (loads at bytes address rest)
 unfolding loads
-loads_unlocked at bytes address rest later next = all_append (computes next address) _ (computes_unlocked next address) (tt, later _ (next + size address + 1))
+loads_unlocked at bytes address rest later next = all_append IsUnlocked (computes next address) _ (computes_unlocked next address) (tt, later _ (next + size address + 1))
 
 stores_unlocked : (at bytes address v : ℕ) (rest : Lifting) → Unlocked rest → Unlocked (stores at bytes address v rest)
 unfolding stores

@@ -33,7 +33,7 @@ no_poloc a b (inl write) (inr read) loc =
     omega arith
 
 -- in program order stands the write before the read
-pub po_kinds : (a b : Event) → IsSbWrite a ⊎ IsSbRead a → IsSbWrite b ⊎ IsSbRead b → Po a b → IsSbWrite a × IsSbRead b
+po_kinds : (a b : Event) → IsSbWrite a ⊎ IsSbRead a → IsSbWrite b ⊎ IsSbRead b → Po a b → IsSbWrite a × IsSbRead b
 po_kinds a b (inr read) (inl write) po = absurd (let order = po.order in let first = read.index in let second = write.index in omega arith)
 po_kinds a b (inr read) (inr later) po = absurd (let order = po.order in let first = read.index in let second = later.index in omega arith)
 po_kinds a b (inl write) (inl later) po = absurd (let order = po.order in let first = write.index in let second = later.index in omega arith)

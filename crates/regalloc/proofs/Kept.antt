@@ -26,8 +26,9 @@ use Rattle.a64_block.specs.Blocks.{a64_end, SameNamed}
 use Rattle.a64_block.specs.Conditions.{a64_skip, IsReadFirst, SetsFirst}
 use Rattle.a64_block.specs.declared.block.AEnd.{AEnd}
 use Rattle.a64_block.specs.declared.block.AEnd.TheVariants as ends
+use Rattle.a64_block.proofs.CallerLemmas.{SkipsBy, row_skips}
 use Rattle.regalloc.specs.Allocated.{MeansNumbers}
-use Rattle.regalloc.proofs.Renaming.{row-renamed, result-renamed, SkipsBy, row_skips}
+use Rattle.regalloc.proofs.Renaming.{row-renamed, result-renamed}
 
 -- numbers of x86 have their homes, the number that reads as 0 has the zero register, and no temporary has it
 pub record IsNaming (g : ℕ → XReg) : Type 0 where
@@ -146,7 +147,7 @@ module _ (g : ℕ → XReg) (naming : IsNaming g) (end : AEnd ℕ) where
       (λ d e same. subst (λ k. Keeps lowered 1 0 (SameNext Landed) (on d) (on' (option_map g (a64_result numbers w)) k)) same.0
       (words_kept may ws apart.1 (at + 4) (ahead d.distance) (after numbers (a64_result numbers w) d s) (after xregs (option_map g (a64_result numbers w)) d t)
       (flags_by (a64_result numbers w) d s t) (agree_after w ws d s t apart agree same.1)))
-      (word_self (SkipsBy (a64_skip w)) row (row_skips may at w (value numbers s) s.nzcv)) in
+      (word_self (SkipsBy (a64_skip w)) row (row_skips numbers may at w (value numbers s) s.nzcv)) in
       subst (λ o. Keeps lowered 1 0 (SameNext Landed) (Begins row then on) (Begins (a64_row xregs may at (renamed g w) (value xregs t) t.nzcv) then on' o)) (sym (result-renamed g seventh first w))
       (subst (λ q. Keeps lowered 1 0 (SameNext Landed) (Begins row then on) (Begins q then on' (option_map g (a64_result numbers w)))) (sym (row_alike may at w ws s t flags agree)) both)
 

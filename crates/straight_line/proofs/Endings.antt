@@ -27,7 +27,7 @@ use Rattle.a64_block.specs.Conditions.{StaysInside}
 use Rattle.a64_block.specs.declared.block.AEnd.{AEnd}
 use Rattle.a64_block.specs.declared.block.AEnd.TheVariants as ends
 use Rattle.a64_block.proofs.CallerLemmas.{IsWhole, words_whole}
-use Rattle.straight_line.specs.Ending.{x, break_of, ending, EndsLine}
+use Rattle.straight_line.specs.Ending.{x, ending, EndsLine}
 
 -- How a thread ends where a line leads: a return to 0 halts, and any other is none. A line leads nowhere else.
 abbrev pub finishes : {T : Type 0} → Target → Tree (Next T)

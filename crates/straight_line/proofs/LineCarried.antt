@@ -22,6 +22,7 @@ use Rattle.behavior.proofs.Results.{results_any, results_then, Known, keeps_know
 use Rattle.behavior.proofs.Unfolding.{AllResults}
 use Rattle.behavior.proofs.Walks.{From, from-cut, from-stop, from-go, run_walk, walk_from}
 use Rattle.behavior.proofs.Blocks.{Unfolds, AreBlocks, Advances, begins_advances, blocks_forward, blocks-back, to_block}
+use Rattle.behavior.proofs.Lists.{all_append}
 use Rattle.x64_syntax.specs.declared.placed.Placed.{Placed}
 use Rattle.x64_table.specs.State.{Thread}
 use Rattle.x64_table.specs.Rows.{Exit, State, Return, Indexed, row_of}
@@ -47,11 +48,12 @@ use Rattle.a64_table.specs.State.{xregs, AState, value}
 use Rattle.a64_table.specs.Rows.{IsForward, a64_words}
 use Rattle.a64_table.specs.Machine.{AThread, a64_step}
 use Rattle.a64_table.proofs.CallerLemmas.{StandAt, lands, words_unfold, words_stand}
+use Rattle.a64_block.specs.Breaks.{break_of}
 use Rattle.a64_block.specs.Blocks.{a64_end, a64_block, SameNamed}
 use Rattle.a64_block.specs.Conditions.{end_operands, IsLayable}
 use Rattle.a64_block.specs.declared.block.AEnd.{AEnd}
 use Rattle.a64_block.specs.declared.block.AEnd.TheVariants as ends
-use Rattle.straight_line.specs.Ending.{x, break_of, ending, EndsLine}
+use Rattle.straight_line.specs.Ending.{x, ending, EndsLine}
 use Rattle.straight_line.specs.Guarded.{Guarded}
 use Rattle.straight_line.specs.Carried.{Starts, CarriesLine}
 use Rattle.straight_line.proofs.Rows.{IsBehind, row_behind}
@@ -290,10 +292,6 @@ carries_line : (first code : ℕ) (all : List ℕ) (entry : ℕ) (line : List Pl
     → StandAt code all entry (ws ++ ending fin) → AllByRecursion IsForward (ws ++ ending fin) → entry + 4 * length (ws ++ ending fin) < 2 ^ 63 → CarriesLine first line code all entry
 carries_line first code all entry [] ws fin is stand forward low = absurd is.straight.ends
 carries_line first code all entry (p ∷ ps) ws fin is stand forward low = carries_cons first code all entry p ps ws fin is stand forward low
-
-all_append : {A : Type 0} (P : A → Type 0) (xs ys : List A) → AllByRecursion P xs → AllByRecursion P ys → AllByRecursion P (xs ++ ys)
-all_append P [] ys one two = two
-all_append P (x ∷ xs) ys one two = (one.0, all_append P xs ys one.1 two)
 
 ending_encodable : (fin : AEnd XReg) → EndsLine fin → AllByRecursion IsRegister (end_operands fin) → AllByRecursion IsEncodable (ending fin)
 ending_encodable (ends.Return r) line registers =

@@ -1,24 +1,16 @@
 -- The words behind those of a line.
 use Rattle.std.specs.Prelude.{◌≢◌, ℕ, true, pos, List, [], ◌∷◌}
-use Rattle.ev_graph.specs.declared.events.TrapKind.{TrapKind}
-use Rattle.ev_graph.specs.declared.events.TrapKind.TheVariants.{Divide, Invalid, BadReturn, BadJump, BadAccess}
+use Rattle.ev_graph.specs.declared.events.TrapKind.TheVariants.{BadAccess}
 use Rattle.a64_code.specs.declared.instr.XReg.{XReg}
 use Rattle.a64_code.specs.declared.instr.A64.{A64}
 use Rattle.a64_code.specs.declared.instr.A64.TheVariants as words
+use Rattle.a64_block.specs.Breaks.{break_of}
 use Rattle.a64_block.specs.declared.block.AEnd.{AEnd}
 use Rattle.a64_block.specs.declared.block.AEnd.TheVariants as ends
 
 -- the register Xn, or the zero register for 31
 abbrev pub x : ℕ → XReg
 x n = record { number = n }
-
--- the number of the break that is a trap of a kind; an access that is not allowed is none
-abbrev pub break_of : TrapKind → ℕ
-break_of Divide = 1
-break_of Invalid = 2
-break_of BadReturn = 3
-break_of BadJump = 4
-break_of BadAccess = 4
 
 -- A line ends by a return or by a trap. Where it returns, the return address comes to X16: 0 ends the thread, and any other is
 -- no return, since no call stands in a line.

@@ -5,11 +5,11 @@ ghost use Rattle.a64_code.specs.Words.{word_of};
 ghost use Rattle.a64_code.specs.declared.instr.A64.TheVariants as words;
 ghost use Rattle.a64_block.specs.declared.block.AEnd.TheVariants as ends;
 ghost use Rattle.a64_block.specs.Conditions.{IsLayable, end_operands};
-ghost use Rattle.straight_line.specs.Ending.{ending, break_of, EndsLine};
+ghost use Rattle.straight_line.specs.Ending.{ending, EndsLine};
 
-use a64_block::{ABlock, AEnd};
+use a64_block::{ABlock, AEnd, break_of};
 use a64_code::{A64, XReg, encode};
-use ev_graph::{NoMemory, TrapKind};
+use ev_graph::NoMemory;
 use std::alloc::Global;
 
 /// The code of a line: the words of its block, and those of its end.
@@ -68,17 +68,4 @@ fn push_break(code: &mut Vec<u32>, number: u16) -> Result<(), NoMemory>
     ensures { OnOk result (code.new.items ≡ code.old.items ++ word_of (words.Brk number) ∷ []) }
 {
     Ok(code.push(encode(A64::Brk(number)))?)
-}
-
-/// The number of the break that is a trap of a kind.
-fn break_of(kind: TrapKind) -> u16
-    ensures number { result ≡ break_of kind }
-    ensures range { IsEncodable (words.Brk result) }
-{
-    match kind {
-        TrapKind::Divide => 1,
-        TrapKind::Invalid => 2,
-        TrapKind::BadReturn => 3,
-        TrapKind::BadJump | TrapKind::BadAccess => 4,
-    }
 }

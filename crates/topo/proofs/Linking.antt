@@ -4,13 +4,14 @@ use Rattle.std.proofs.Math.ListN.{set, length-set, length-replicate}
 use Rattle.std.specs.List.{slice_get}
 use Rattle.std.proofs.lemmas.List.{get_or-replicate}
 use Rattle.std.proofs.lemmas.Option.{slice_get_within, get_or_from_slice_get}
+use Rattle.ev_graph.proofs.PlaceLemmas.{push_cases}
 use Rattle.topo.specs.declared.edge.Edge.{Edge}
 use Rattle.topo.specs.declared.walk.Mark.{Mark}
 use Rattle.topo.specs.declared.walk.Mark.TheVariants.{New, Open, Done}
 use Rattle.topo.specs.Links.{IsLast, AreLinks}
 use Rattle.topo.specs.declared.walk.Walk.{Walk}
 use Rattle.topo.specs.Walk.{AreWalkable, IsWalk, Holds, IsFresh}
-use Rattle.topo.proofs.Places.{set_cases, push_cases}
+use Rattle.topo.proofs.Places.{set_cases}
 
 -- an element of a list of copies
 pub replicated : {A : Type 0} (n : ℕ) (x : A) (i : ℕ) (y : A) → slice_get (replicate n x) i ≡ Some y → y ≡ x

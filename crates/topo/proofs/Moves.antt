@@ -4,13 +4,14 @@ use Rattle.std.proofs.Math.ListN.{set, length-set}
 use Rattle.std.specs.List.{slice_get}
 use Rattle.std.proofs.lemmas.Option.{slice_get_within}
 use Rattle.ev_graph.specs.Places.{StandsIn, IsDistinct}
+use Rattle.ev_graph.proofs.PlaceLemmas.{get-append, get-push, push_cases}
 use Rattle.topo.specs.declared.edge.Edge.{Edge}
 use Rattle.topo.specs.declared.walk.Mark.{Mark}
 use Rattle.topo.specs.declared.walk.Mark.TheVariants.{New, Open, Done}
 use Rattle.topo.specs.Order.{Leads}
 use Rattle.topo.specs.Links.{AreLinked}
 use Rattle.topo.specs.Walk.{IsWalk, LeadsToTop}
-use Rattle.topo.proofs.Places.{get-set_same, get-set_other, set_cases, get-append, get-push, push_cases}
+use Rattle.topo.proofs.Places.{get-set_same, get-set_other, set_cases}
 
 -- a write at v leaves the marks that are another than that of v
 pub stays : (marks : List Mark) (v u : ℕ) (at_v at_u new : Mark) → slice_get marks v ≡ Some at_v → slice_get marks u ≡ Some at_u → at_v ≢ at_u → slice_get (set marks v new) u ≡ Some at_u
