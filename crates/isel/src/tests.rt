@@ -44,3 +44,38 @@ fn steps_have_their_words(rt: HostRuntime) -> Result<(), Fail> {
     assert_eq!(rt; selected.end, AEnd::Return(26));
     Ok(())
 }
+
+// the write and the read of store buffering, with their fences
+#[test]
+fn store_buffering_has_its_words(rt: HostRuntime) -> Result<(), Fail> {
+    let alloc = rt.alloc();
+    let steps = [
+        IrStep::GetReg(Temp(0), 0),
+        IrStep::GetReg(Temp(1), 7),
+        IrStep::Fence(IrFence::Fww),
+        IrStep::Store(Temp(1), Temp(0), 8, 0x40100F),
+        IrStep::GetReg(Temp(2), 6),
+        IrStep::Load(Temp(3), Temp(2), 8, 0x401012),
+        IrStep::Fence(IrFence::Frm),
+        IrStep::SetReg(0, Temp(3)),
+    ];
+    let block = IrBlock {
+        first: 0x40100F,
+        steps: List::of(Vec::from_slice(alloc, &steps)?),
+        end: IrEnd::Goto(0x401015),
+    };
+    let selected = select(alloc, &block).map_err(|_| "no memory")?;
+    let wanted = [
+        A64::Orr(true, 21, 20, 0, 0, 0),
+        A64::Orr(true, 22, 20, 7, 0, 0),
+        A64::DmbSt,
+        A64::Str(8, 21, 22, 0),
+        A64::Orr(true, 23, 20, 6, 0, 0),
+        A64::Ldr(8, 24, 23, 0),
+        A64::DmbLd,
+        A64::Orr(true, 0, 20, 24, 0, 0),
+    ];
+    assert_eq!(rt; selected.steps.as_slice(), wanted.as_slice());
+    assert_eq!(rt; selected.end, AEnd::Goto(0x401015));
+    Ok(())
+}

@@ -3,6 +3,22 @@ use limm_ir::{IrOp, IrStep, Temp};
 use std::test::Fail;
 use x64_syntax::{AluOp, Flow, Instr, Mem, Operand, Placed, Reg, Width};
 
+/// mov [rdi], rax, by which each thread of store buffering writes
+const WRITE: Instr = Instr::Mov(
+    Width::Quad,
+    Operand::Mem(Mem {
+        base: Some(7),
+        index: None,
+        scale: 1,
+        offset: 0,
+        rip: false,
+    }),
+    Operand::Reg(Reg {
+        number: 0,
+        high: false,
+    }),
+);
+
 /// add dword ptr [rbx + rcx * 4 + 8], eax
 const ADD: Instr = Instr::Alu(
     AluOp::Add,
@@ -68,6 +84,25 @@ fn adds_to_memory(rt: HostRuntime) -> Result<(), Fail> {
         // CF
         IrStep::Op(IrOp::LessU, Temp(23), Temp(13), Temp(10)),
         IrStep::SetFlag(0, Temp(23)),
+    ];
+    assert_eq!(rt; lifted.as_slice(), wanted.as_slice());
+    Ok(())
+}
+
+#[test]
+fn writes_as_store_buffering_does(rt: HostRuntime) -> Result<(), Fail> {
+    let placed = Placed {
+        address: 0x40100F,
+        length: 3,
+        instr: WRITE,
+        flow: Flow::Plain,
+    };
+    assert_eq!(rt; is_built(&placed.instr), true);
+    let lifted = lift_instr(rt.alloc(), &placed, 0).map_err(|_| "no memory")?;
+    let wanted = [
+        IrStep::GetReg(Temp(0), 0),
+        IrStep::GetReg(Temp(1), 7),
+        IrStep::Store(Temp(1), Temp(0), 8, 0x40100F),
     ];
     assert_eq!(rt; lifted.as_slice(), wanted.as_slice());
     Ok(())

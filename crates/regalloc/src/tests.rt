@@ -52,3 +52,36 @@ fn numbers_get_registers(rt: HostRuntime) -> Result<(), Fail> {
     assert_eq!(rt; allocated.end, AEnd::Branch(x(16), 0x401010, 0x401020));
     Ok(())
 }
+
+/// The write of store buffering, with its fence.
+fn write(alloc: Global) -> Result<ABlock<u32>, NoMemory>
+    ensures { IfOk result (λ block. IsAllocatable block.steps block.end) }
+{
+    let words = [
+        A64::Orr(true, 21, 20, 0, 0, 0),
+        A64::Orr(true, 22, 20, 7, 0, 0),
+        A64::DmbSt,
+        A64::Str(8, 21, 22, 0),
+    ];
+    Ok(ABlock {
+        first: 0x40100F,
+        steps: List::of(Vec::from_slice(alloc, &words)?),
+        end: AEnd::Goto(0x401012),
+    })
+}
+
+#[test]
+fn store_buffering_gets_registers(rt: HostRuntime) -> Result<(), Fail> {
+    let alloc = rt.alloc();
+    let block = write(alloc).map_err(|_| "no memory")?;
+    let allocated = allocate(alloc, block).map_err(|_| "no memory")?;
+    let wanted = [
+        A64::Orr(true, x(16), x(31), x(0), 0, 0),
+        A64::Orr(true, x(17), x(31), x(7), 0, 0),
+        A64::DmbSt,
+        A64::Str(8, x(16), x(17), 0),
+    ];
+    assert_eq!(rt; allocated.steps.as_slice(), wanted.as_slice());
+    assert_eq!(rt; allocated.end, AEnd::Goto(0x401012));
+    Ok(())
+}
