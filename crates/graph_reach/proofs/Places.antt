@@ -4,7 +4,7 @@ use Rattle.std.specs.List.{slice_get}
 use Rattle.std.proofs.lemmas.Option.{slice_get_within, slice_get-get_or, get_or_from_slice_get}
 use Rattle.std.proofs.lemmas.List.{take_more, length-replicate, get_or-replicate}
 use Rattle.ev_graph.specs.Places.{StandsIn}
-use Rattle.ev_graph.proofs.PlaceLemmas.{get-take}
+use Rattle.ev_graph.proofs.PlaceLemmas.{get-take, push_cases}
 
 -- what stands in the front of a list stands there in the list
 pub from_front : {A : Type 0} (n : ℕ) (xs : List A) (i : ℕ) (x : A) → slice_get (take n xs) i ≡ Some x → (i < n) × (slice_get xs i ≡ Some x)
