@@ -3,60 +3,82 @@ use limm_ir::{IrEnd, IrOp, IrStep, Temp};
 use std::test::Fail;
 use x64_syntax::{Flow, Instr, Mem, Operand, Placed, Reg, Width};
 
-/// An instruction that goes on behind itself, or returns.
-fn placed(address: u64, length: u8, instr: Instr) -> Placed {
+const RAX: Operand = Operand::Reg(Reg {
+    number: 0,
+    high: false,
+});
+
+const RSI: Operand = Operand::Reg(Reg {
+    number: 6,
+    high: false,
+});
+
+const RDI: Operand = Operand::Reg(Reg {
+    number: 7,
+    high: false,
+});
+
+const AT_RSI: Operand = Operand::Mem(Mem {
+    base: Some(6),
+    index: None,
+    scale: 1,
+    offset: 0,
+    rip: false,
+});
+
+const AT_RDI: Operand = Operand::Mem(Mem {
+    base: Some(7),
+    index: None,
+    scale: 1,
+    offset: 0,
+    rip: false,
+});
+
+/// The first thread of store buffering.
+const LINE: [Placed; 6] = [
     Placed {
-        address,
-        length,
-        instr,
+        address: 0x401000,
+        length: 5,
+        instr: Instr::Mov(Width::Long, RDI, Operand::Imm(0x404000)),
         flow: Flow::Plain,
-    }
-}
+    },
+    Placed {
+        address: 0x401005,
+        length: 5,
+        instr: Instr::Mov(Width::Long, RSI, Operand::Imm(0x404008)),
+        flow: Flow::Plain,
+    },
+    Placed {
+        address: 0x40100A,
+        length: 5,
+        instr: Instr::Mov(Width::Long, RAX, Operand::Imm(1)),
+        flow: Flow::Plain,
+    },
+    Placed {
+        address: 0x40100F,
+        length: 3,
+        instr: Instr::Mov(Width::Quad, AT_RDI, RAX),
+        flow: Flow::Plain,
+    },
+    Placed {
+        address: 0x401012,
+        length: 3,
+        instr: Instr::Mov(Width::Quad, RAX, AT_RSI),
+        flow: Flow::Plain,
+    },
+    Placed {
+        address: 0x401015,
+        length: 1,
+        instr: Instr::Ret,
+        flow: Flow::Plain,
+    },
+];
 
-/// A whole register.
-fn register(number: u8) -> Operand {
-    Operand::Reg(Reg {
-        number,
-        high: false,
-    })
-}
-
-/// The memory at the address that a register holds.
-fn at(number: u8) -> Operand {
-    Operand::Mem(Mem {
-        base: Some(number),
-        index: None,
-        scale: 1,
-        offset: 0,
-        rip: false,
-    })
-}
-
-// the first thread of store buffering; each instruction has temporaries of its own
+// each instruction has temporaries of its own
 #[test]
 fn store_buffering_is_lifted(rt: HostRuntime) -> Result<(), Fail> {
     let alloc = rt.alloc();
-    let line = [
-        placed(
-            0x401000,
-            5,
-            Instr::Mov(Width::Long, register(7), Operand::Imm(0x404000)),
-        ),
-        placed(
-            0x401005,
-            5,
-            Instr::Mov(Width::Long, register(6), Operand::Imm(0x404008)),
-        ),
-        placed(
-            0x40100A,
-            5,
-            Instr::Mov(Width::Long, register(0), Operand::Imm(1)),
-        ),
-        placed(0x40100F, 3, Instr::Mov(Width::Quad, at(7), register(0))),
-        placed(0x401012, 3, Instr::Mov(Width::Quad, register(0), at(6))),
-        placed(0x401015, 1, Instr::Ret),
-    ];
-    let block = lift_line(alloc, &line).map_err(|_| "no memory")?;
+    let block = lift_line(alloc, &LINE).map_err(|_| "no memory")?;
     let wanted = [
         IrStep::Const(Temp(0), 0x404000),
         IrStep::SetReg(7, Temp(0)),

@@ -1,5 +1,5 @@
 -- The steps of an instruction that is lifted so far make no locked access.
-use Rattle.std.proofs.Common.{ℕ, ◌+◌, List, [], ◌∷◌, ◌++◌}
+use Rattle.std.proofs.Common.{ℕ, ◌+◌}
 use Rattle.std.specs.List.{AllByRecursion}
 use Rattle.behavior.proofs.Lists.{all_append}
 use Rattle.x64_syntax.specs.declared.instr.AluOp.{AluOp}
@@ -11,7 +11,6 @@ use Rattle.x64_syntax.specs.declared.operand.Operand.TheVariants as operand
 use Rattle.x64_syntax.specs.declared.operand.Reg.{Reg}
 use Rattle.x64_syntax.specs.declared.operand.Width.{Width}
 use Rattle.limm_ir.specs.Conditions.{IsUnlocked}
-use Rattle.limm_ir.specs.declared.step.IrStep.{IrStep}
 use Rattle.lift_alu.specs.Formulas.{Formula, Kept, Number, Register, Flag, Operation, Choice, computes, size, Lifting, done, keeps, sets_register, sets_flag, loads, stores}
 use Rattle.lift_alu.specs.Flags.{sets_result, sets_flags}
 use Rattle.lift_alu.specs.Lifted.{Place, InRegister, InMemory, Nowhere, in_memory, puts, fetches, finds, reads_there, writes_there, puts_there, moves, puts_operand, changes, flags_of, compares, combines, lifts_alu, takes_address, exchanges, adds_exchanged, pushes, pops, leaves_frame, chooses, lifts}

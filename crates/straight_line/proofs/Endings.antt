@@ -1,12 +1,10 @@
 -- The words of a line with their ending do what the block does and then a line's end.
-use Rattle.std.proofs.Common.{◌≡◌, ◌≢◌, ℕ, ◌+◌, ◌*◌, ◌%◌, ◌^◌, ◌<◌, ◌≤◌, ◌==◌, Bool, true, false, List, [], ◌∷◌, ◌++◌, length, refl, sym, ap, ◌∙◌, subst, arith, eqb-true}
-use Rattle.std.specs.Prelude.{if◌then◌else◌, pos, bit_or}
-use Rattle.std.specs.List.{AllByRecursion}
+use Rattle.std.proofs.Common.{◌≡◌, ℕ, ◌+◌, ◌*◌, ◌%◌, ◌^◌, ◌==◌, Bool, true, false, List, ◌++◌, length, refl, sym, ap, ◌∙◌, subst, arith}
+use Rattle.std.specs.Prelude.{if◌then◌else◌, bit_or}
 use Rattle.std.specs.Int.Bits.{or_zero_l}
 use Rattle.ev_graph.specs.declared.events.End.TheVariants.{Halted}
-use Rattle.ev_graph.specs.declared.events.TrapKind.{TrapKind}
 use Rattle.ev_graph.specs.declared.events.TrapKind.TheVariants.{Divide, Invalid, BadReturn, BadJump, BadAccess}
-use Rattle.behavior.specs.Tree.{Tree, Gives, Begins, Next, Stops, ◌then◌}
+use Rattle.behavior.specs.Tree.{Tree, Gives, Next, Stops, ◌then◌}
 use Rattle.behavior.specs.Acts.{put, Permission, traps}
 use Rattle.behavior.specs.Leaving.{Target, ToBlock, ToReturn, ToEntry, Left}
 use Rattle.behavior.specs.Seen.{lowered}

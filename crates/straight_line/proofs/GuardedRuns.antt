@@ -1,5 +1,5 @@
 -- The runs of the words of a line are guarded by their fences.
-use Rattle.std.proofs.Common.{◌≡◌, ℕ, zero, suc, ◌+◌, ◌*◌, ◌^◌, ◌<◌, ◌==◌, Bool, true, false, List, [], ◌∷◌, ◌++◌, length, refl, sym, ap, ◌∙◌, subst, arith}
+use Rattle.std.proofs.Common.{◌≡◌, ℕ, zero, suc, ◌+◌, ◌^◌, ◌==◌, Bool, true, false, List, [], ◌∷◌, ◌++◌, refl, sym, ap, ◌∙◌, subst}
 use Rattle.std.specs.Prelude.{if◌then◌else◌}
 use Rattle.std.specs.List.{AllByRecursion, flat_map}
 use Rattle.std.proofs.lemmas.List.{append-nil}
@@ -9,21 +9,16 @@ use Rattle.ev_graph.specs.declared.events.AccessKind.TheVariants as kinds
 use Rattle.ev_graph.specs.declared.events.FenceKind.{FenceKind}
 use Rattle.ev_graph.specs.declared.events.FenceKind.TheVariants.{Frm, Fww, Fsc, Mfence, DmbLd, DmbSt, DmbFull}
 use Rattle.ev_graph.specs.declared.events.TrapKind.TheVariants.{BadAccess}
-use Rattle.ev_graph.specs.declared.events.End.{End}
 use Rattle.behavior.specs.Tree.{Tree, Gives, Begins, Acts, Point, Cut, At, Path, cut, gives, begins, acts, Next, Goes, Stops, ◌then◌, ticks}
 use Rattle.behavior.specs.Acts.{Permission, goes, traps, access, makes, fences_at}
 use Rattle.behavior.specs.Seen.{lowered}
-use Rattle.behavior.specs.Run.{Run}
 use Rattle.behavior.specs.Kept.{Keeps}
 use Rattle.behavior.proofs.Paths.{Split, within, ended, beyond, split}
 use Rattle.behavior.proofs.Ticks.{ticks-then}
-use Rattle.behavior.proofs.Walks.{From, from-cut, from-stop, from-go, run_walk, walk_from}
-use Rattle.behavior.proofs.Blocks.{to_block}
 use Rattle.limm_ir.specs.Conditions.{IsUnlocked}
 use Rattle.limm_ir.specs.Costs.{step_cost}
 use Rattle.limm_ir.specs.Steps.{IrState, fence_of, ir_step, ir_steps}
 use Rattle.limm_ir.specs.declared.step.IrFence.{IrFence}
-use Rattle.limm_ir.specs.declared.step.IrFence.TheVariants as fence
 use Rattle.limm_ir.specs.declared.step.IrStep.{IrStep}
 use Rattle.limm_ir.specs.declared.step.IrStep.TheVariants as steps
 use Rattle.fence_place.specs.Fenced.{fenced}

@@ -1,9 +1,9 @@
 -- The words of a line carry it.
-use Rattle.std.proofs.Common.{◌≡◌, ◌≢◌, ℕ, ◌+◌, ◌*◌, ◌%◌, ◌^◌, ◌<◌, ◌≤◌, ◌==◌, Bool, true, false, List, [], ◌∷◌, ◌++◌, map, length, refl, sym, ap, ◌∙◌, subst, arith, length-append, inl, inr}
+use Rattle.std.proofs.Common.{◌≡◌, ℕ, ◌+◌, ◌*◌, ◌%◌, ◌^◌, ◌<◌, ◌==◌, Bool, true, false, List, [], ◌∷◌, ◌++◌, map, length, refl, sym, ap, ◌∙◌, subst, arith, length-append, inl, inr}
 use Rattle.std.proofs.lemmas.List.{length-map}
 use Rattle.std.proofs.lemmas.Int.{ints}
-use Rattle.std.specs.Prelude.{if◌then◌else◌, pos, Option}
-use Rattle.std.specs.List.{AllByRecursion, flat_map}
+use Rattle.std.specs.Prelude.{if◌then◌else◌, pos}
+use Rattle.std.specs.List.{AllByRecursion}
 use Rattle.ev_graph.specs.declared.events.Item.{Item}
 use Rattle.ev_graph.specs.declared.events.End.{End}
 use Rattle.ev_graph.specs.declared.events.End.TheVariants.{Halted}
@@ -11,7 +11,6 @@ use Rattle.ev_graph.specs.declared.events.TrapKind.TheVariants.{Divide, Invalid,
 use Rattle.behavior.specs.Tree.{Tree, Gives, Begins, Point, Cut, At, Path, cut, gives, Next, Goes, Stops, ◌then◌}
 use Rattle.behavior.specs.Acts.{Permission, traps}
 use Rattle.behavior.specs.Leaving.{Target, ToBlock, ToReturn, ToEntry, Left, SameLeft}
-use Rattle.behavior.specs.Run.{Run}
 use Rattle.behavior.specs.Seen.{full, lowered, trace}
 use Rattle.behavior.specs.Kept.{SamePoint, both-at, SameNext, both-go, both-stop, Keeps, Through}
 use Rattle.behavior.proofs.Paths.{then-assoc}
@@ -27,24 +26,22 @@ use Rattle.x64_syntax.specs.declared.placed.Placed.{Placed}
 use Rattle.x64_table.specs.State.{Thread}
 use Rattle.x64_table.specs.Rows.{Exit, State, Return, Indexed, row_of}
 use Rattle.x64_table.specs.Blocks.{goes_on, x64_block}
-use Rattle.x64_table.specs.Machine.{straight_code, no_sites, x64_step}
-use Rattle.limm_ir.specs.Conditions.{IsUnlocked}
+use Rattle.x64_table.specs.Machine.{straight_code, x64_step}
 use Rattle.limm_ir.specs.Costs.{step_cost}
 use Rattle.limm_ir.specs.Steps.{IrState, ir_steps}
 use Rattle.limm_ir.specs.Blocks.{ir_end, ir_block}
 use Rattle.limm_ir.specs.declared.block.IrEnd.{IrEnd}
 use Rattle.limm_ir.specs.declared.block.IrEnd.TheVariants as irs
-use Rattle.limm_ir.specs.declared.step.IrStep.{IrStep}
-use Rattle.fence_place.specs.Fenced.{fenced, IsFenced}
+use Rattle.fence_place.specs.Fenced.{IsFenced}
 use Rattle.isel.specs.Selected.{SameNumbered}
 use Rattle.lift.specs.Block.{first_of}
-use Rattle.line_read.specs.Line.{IsTranslated, IsStraight, Stand}
+use Rattle.line_read.specs.Line.{IsTranslated, IsStraight}
 use Rattle.a64_code.specs.declared.instr.XReg.{XReg}
 use Rattle.a64_code.specs.declared.instr.A64.{A64}
 use Rattle.a64_code.specs.declared.instr.A64.TheVariants as words
 use Rattle.a64_code.specs.Ranges.{IsRegister, IsEncodable}
 use Rattle.a64_code.specs.Words.{word_of}
-use Rattle.a64_table.specs.State.{xregs, AState, value}
+use Rattle.a64_table.specs.State.{xregs, AState}
 use Rattle.a64_table.specs.Rows.{IsForward, a64_words}
 use Rattle.a64_table.specs.Machine.{AThread, a64_step}
 use Rattle.a64_table.proofs.CallerLemmas.{StandAt, lands, words_unfold, words_stand}

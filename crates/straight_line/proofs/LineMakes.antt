@@ -1,15 +1,11 @@
 -- What items the machine makes of a line.
-use Rattle.std.proofs.Common.{◌≡◌, ℕ, ◌==◌, ◌^◌, ◌%◌, ◌+◌, Bool, true, false, List, Option, Some, None, refl, sym, subst}
+use Rattle.std.proofs.Common.{◌≡◌, ℕ, ◌==◌, List, Option, Some, None, refl}
 use Rattle.std.specs.Prelude.{if◌then◌else◌}
 use Rattle.std.specs.List.{AllByRecursion}
 use Rattle.ev_graph.specs.declared.events.End.TheVariants.{Halted}
-use Rattle.ev_graph.specs.declared.events.FenceKind.TheVariants.{Mfence}
-use Rattle.ev_graph.specs.declared.events.Item.TheVariants as items
 use Rattle.ev_graph.specs.declared.events.TrapKind.TheVariants.{BadReturn}
-use Rattle.behavior.specs.Tree.{Tree, Gives, Begins, Next, Stops, ◌then◌}
-use Rattle.behavior.specs.Acts.{put, Permission, goes, traps}
-use Rattle.behavior.specs.Explained.{IsOpen}
-use Rattle.behavior.proofs.ActsLemmas.{open_then, open_reads, open_writes, open_makes}
+use Rattle.behavior.specs.Tree.{Gives, Stops, ◌then◌}
+use Rattle.behavior.specs.Acts.{Permission, goes, traps}
 use Rattle.behavior.proofs.Makes.{AllMakes, makes_then, makes_choice}
 use Rattle.x64_syntax.specs.declared.placed.Placed.{Placed}
 use Rattle.x64_table.specs.State.{Thread}

@@ -1,5 +1,5 @@
 -- The x86 machine takes the instructions of a line one behind the other.
-use Rattle.std.proofs.Common.{◌≡◌, ℕ, ◌+◌, ◌%◌, ◌^◌, ◌<◌, List, [], ◌∷◌, Option, Some, refl, sym, ap, ◌∙◌, subst, arith}
+use Rattle.std.proofs.Common.{◌≡◌, ℕ, ◌+◌, ◌%◌, ◌^◌, ◌<◌, List, [], ◌∷◌, Option, Some, sym, ap, ◌∙◌, subst, arith}
 use Rattle.std.specs.List.{AllByRecursion}
 use Rattle.behavior.specs.Tree.{Tree, Gives, Begins, Next, Goes, ◌then◌}
 use Rattle.behavior.specs.Acts.{Permission, goes}

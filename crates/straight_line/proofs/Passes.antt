@@ -1,16 +1,16 @@
 -- The passes one behind the other: a line and its words over registers leave alike.
-use Rattle.std.proofs.Common.{◌≡◌, ℕ, zero, suc, ◌+◌, ◌-◌, ◌*◌, ◌^◌, ◌<◌, ◌==◌, Bool, true, false, List, [], ◌∷◌, refl, sym, ap, ◌∙◌, subst, arith}
+use Rattle.std.proofs.Common.{◌≡◌, ℕ, zero, suc, ◌+◌, ◌-◌, ◌^◌, ◌<◌, ◌==◌, Bool, true, false, List, refl, sym, ap, ◌∙◌, subst, arith}
 use Rattle.std.specs.Prelude.{if◌then◌else◌, nat_lt}
 use Rattle.std.specs.List.{AllByRecursion}
 use Rattle.std.proofs.lemmas.Bool.Decides.{nat_tests}
 use Rattle.word_arith.specs.Bits.{bit}
-use Rattle.behavior.specs.Tree.{Tree, Next, ◌then◌}
+use Rattle.behavior.specs.Tree.{Next, ◌then◌}
 use Rattle.behavior.specs.Acts.{Permission}
 use Rattle.behavior.specs.Leaving.{Left, SameLeft}
 use Rattle.behavior.specs.Seen.{full, placed_full, lowered}
 use Rattle.behavior.specs.Kept.{SameNext, both-go, both-stop, Keeps, Through}
 use Rattle.behavior.proofs.SeenLemmas.{sees-placed_full, placed_full-to_full, lowered-to_full}
-use Rattle.behavior.proofs.Beside.{Beside, give, beside_keeps}
+use Rattle.behavior.proofs.Beside.{give, beside_keeps}
 use Rattle.behavior.proofs.KeepsLemmas.{keeps_through, keeps_wider, keeps_coarser, keeps_then, next_through, next_wider}
 use Rattle.alu_width.specs.declared.flags.Flags.{Flags}
 use Rattle.x64_syntax.specs.declared.placed.Placed.{Placed}
@@ -18,7 +18,7 @@ use Rattle.x64_table.specs.State.{Thread}
 use Rattle.x64_table.specs.Blocks.{x64_block}
 use Rattle.limm_ir.specs.Conditions.{IsUnlocked}
 use Rattle.limm_ir.specs.Costs.{step_cost, fenced_cost}
-use Rattle.limm_ir.specs.Steps.{IrState, ir_steps}
+use Rattle.limm_ir.specs.Steps.{IrState}
 use Rattle.limm_ir.specs.Blocks.{ir_end, ir_block}
 use Rattle.limm_ir.specs.declared.block.IrEnd.{IrEnd}
 use Rattle.limm_ir.specs.declared.block.IrEnd.TheVariants as ends
@@ -31,7 +31,7 @@ use Rattle.a64_code.specs.declared.instr.XReg.{XReg}
 use Rattle.a64_code.specs.declared.instr.A64.{A64}
 use Rattle.a64_table.specs.State.{xregs, AState}
 use Rattle.a64_table.specs.Machine.{AThread}
-use Rattle.a64_block.specs.Registers.{numbers, home}
+use Rattle.a64_block.specs.Registers.{home}
 use Rattle.a64_block.specs.Blocks.{a64_block, SameNamed}
 use Rattle.a64_block.specs.declared.block.AEnd.{AEnd}
 use Rattle.regalloc.specs.Allocated.{MeansNumbers}

@@ -1,19 +1,16 @@
 -- What the rows of instructions that are translated so far come to: the address behind the instruction, by unlocked accesses
 -- that are allowed.
-use Rattle.std.proofs.Common.{◌≡◌, ℕ, ◌+◌, ◌%◌, ◌^◌, ◌<◌, ◌⊎◌, Bool, true, false, not, List, [], ◌∷◌, refl, sym, ap, ◌∙◌, subst, arith}
-use Rattle.std.specs.Prelude.{if◌then◌else◌}
+use Rattle.std.proofs.Common.{◌≡◌, ℕ, ◌+◌, ◌%◌, ◌^◌, ◌<◌, Bool, true, false, not, [], ◌∷◌, refl, ◌∙◌, arith}
 use Rattle.ev_graph.specs.declared.events.AccessKind.TheVariants as kinds
 use Rattle.ev_graph.specs.declared.events.FenceKind.TheVariants.{Mfence}
 use Rattle.ev_graph.specs.declared.events.Item.{Item}
 use Rattle.ev_graph.specs.declared.events.Item.TheVariants as items
 use Rattle.ev_graph.specs.declared.events.TrapKind.TheVariants.{BadAccess}
 use Rattle.ev_graph.specs.WellFormed.{is_write}
-use Rattle.behavior.specs.Tree.{Tree, Acts, Next}
+use Rattle.behavior.specs.Tree.{Acts}
 use Rattle.behavior.specs.Acts.{Permission, goes, traps, access, makes, reads, writes, fences_at}
 use Rattle.behavior.proofs.Unfolding.{AllResults, results_choice}
 use Rattle.behavior.proofs.Makes.{AllMakes, makes_reads, makes_writes}
-use Rattle.alu_width.specs.declared.flags.Flags.{Flags}
-use Rattle.alu_width.specs.declared.flags.Outcome.{Outcome}
 use Rattle.x64_syntax.specs.declared.instr.AluOp.{AluOp}
 use Rattle.x64_syntax.specs.declared.instr.AluOp.TheVariants as op
 use Rattle.x64_syntax.specs.declared.instr.Instr.{Instr}
@@ -25,8 +22,8 @@ use Rattle.x64_syntax.specs.declared.operand.Width.{Width}
 use Rattle.x64_syntax.specs.declared.operand.Width.TheVariants as width
 use Rattle.x64_syntax.specs.declared.placed.Flow.{Flow}
 use Rattle.x64_syntax.specs.declared.placed.Placed.{Placed}
-use Rattle.x64_table.specs.State.{Thread, bytes, register, set, rax, rsp, rbp, upper, address, with_flags, below_stack, pushed, popped}
-use Rattle.x64_table.specs.Rows.{Exit, State, Return, Indexed, Row, leaves, puts, fetches, stores, changes, becomes, compare_row, combine_row, alu_row, xchg_row, xadd_row, push_row, pop_row, leave_row, returns, acts, row_of}
+use Rattle.x64_table.specs.State.{Thread, bytes, register, set, rax, rsp, rbp, upper, address, below_stack, pushed, popped}
+use Rattle.x64_table.specs.Rows.{Exit, State, Return, Indexed, Row, leaves, puts, fetches, stores, changes, compare_row, combine_row, alu_row, xchg_row, xadd_row, push_row, pop_row, leave_row, returns, acts, row_of}
 use Rattle.lift_alu.specs.Built.{is_built}
 use Rattle.line_read.specs.Line.{IsTranslated}
 
