@@ -1,0 +1,87 @@
+// Runs the code of images in place of a host, for scripts/run-images.
+//
+//     image-host CODE WINDOW
+//
+// Each line of standard input is a case, in hexadecimal: how many words the code has and these words, X0 to X15, X19 to X22 and the
+// eight cells of memory at WINDOW. The code is put at CODE, where it begins. For each case a line is printed: the number of
+// the break at which the code stopped, or "fault" where it touched memory that is not there, and the same registers and cells.
+#include <inttypes.h>
+#include <setjmp.h>
+#include <signal.h>
+#include <stdio.h>
+#include <stdlib.h>
+#include <string.h>
+#include <sys/mman.h>
+#include <ucontext.h>
+
+enum { REGISTERS = 20, CELLS = 8, CODE_SIZE = 0x10000, WINDOW_SIZE = 0x1000 };
+
+// X0 to X15 and X19 to X22 get their values, and control goes to the code
+void enter(const uint64_t *registers, const void *code);
+__asm__("enter:\n"
+        "mov x30, x1\n"
+        "mov x29, x0\n"
+        "ldp x21, x22, [x29, #144]\n"
+        "ldp x19, x20, [x29, #128]\n"
+        "ldp x14, x15, [x29, #112]\n"
+        "ldp x12, x13, [x29, #96]\n"
+        "ldp x10, x11, [x29, #80]\n"
+        "ldp x8, x9, [x29, #64]\n"
+        "ldp x6, x7, [x29, #48]\n"
+        "ldp x4, x5, [x29, #32]\n"
+        "ldp x2, x3, [x29, #16]\n"
+        "ldp x0, x1, [x29]\n"
+        "br x30\n");
+
+static sigjmp_buf stopped;
+static uint64_t registers[REGISTERS];
+static int64_t stop; // the number of a break, or -1
+
+static void on_signal(int number, siginfo_t *info, void *context) {
+  const mcontext_t *machine = &((ucontext_t *)context)->uc_mcontext;
+  (void)info;
+  for (int n = 0; n < REGISTERS; n++) registers[n] = machine->regs[n < 16 ? n : n + 3];
+  stop = number == SIGTRAP ? (int64_t)(*(uint32_t *)machine->pc >> 5 & 0xFFFF) : -1;
+  siglongjmp(stopped, 1);
+}
+
+static void *area(const char *address, size_t size, int protection) {
+  void *wanted = (void *)strtoull(address, NULL, 16);
+  void *found = mmap(wanted, size, protection, MAP_PRIVATE | MAP_ANONYMOUS | MAP_FIXED_NOREPLACE, -1, 0);
+  if (found != wanted) {
+    fprintf(stderr, "image-host: no memory at %s\n", address);
+    exit(1);
+  }
+  return found;
+}
+
+static uint64_t next(void) {
+  uint64_t value;
+  if (scanf("%" SCNx64, &value) != 1) exit(0);
+  return value;
+}
+
+int main(int count, char **words) {
+  if (count != 3) return 2;
+  uint32_t *code = area(words[1], CODE_SIZE, PROT_READ | PROT_WRITE | PROT_EXEC);
+  uint64_t *window = area(words[2], WINDOW_SIZE, PROT_READ | PROT_WRITE);
+  struct sigaction action = {.sa_sigaction = on_signal, .sa_flags = SA_SIGINFO};
+  sigaction(SIGTRAP, &action, NULL);
+  sigaction(SIGSEGV, &action, NULL);
+  sigaction(SIGBUS, &action, NULL);
+  for (;;) {
+    uint64_t size = next();
+    if (size > CODE_SIZE / 4) return 2;
+    for (uint64_t n = 0; n < size; n++) code[n] = next();
+    for (int n = 0; n < REGISTERS; n++) registers[n] = next();
+    memset(window, 0, WINDOW_SIZE);
+    for (int n = 0; n < CELLS; n++) window[n] = next();
+    __builtin___clear_cache((char *)code, (char *)(code + size));
+    if (sigsetjmp(stopped, 1) == 0) enter(registers, code);
+    if (stop < 0) printf("fault");
+    else printf("%" PRIx64, (uint64_t)stop);
+    for (int n = 0; n < REGISTERS; n++) printf(" %" PRIx64, registers[n]);
+    for (int n = 0; n < CELLS; n++) printf(" %" PRIx64, window[n]);
+    printf("\n");
+  }
+}
