@@ -20,7 +20,7 @@ pub enum AEnd<R> {
 ///
 /// Over `u32` registers are numbers: 0 to 15 are those of x86, 16 to 19 the flags CF, ZF, SF and OF,
 /// 20 is the zero register, and greater numbers are temporaries.
-#[derive(Debug, Drop)]
+#[derive(Drop)]
 pub struct ABlock<R> {
     pub first: u64,
     pub steps: List<A64<R>>,

@@ -17,7 +17,7 @@ pub struct A64State {
 }
 
 /// The flags: negative, zero, carry (no borrow) and overflow.
-#[derive(Clone, Copy, Debug, PartialEq, Eq)]
+#[derive(Clone, Copy, PartialEq, Eq)]
 pub struct Nzcv {
     pub n: bool,
     pub z: bool,
@@ -27,7 +27,7 @@ pub struct Nzcv {
 
 /// What a word comes to: how far it goes, in words, what its result register gets, if it has one, and
 /// the flags.
-#[derive(Clone, Copy, Debug, PartialEq, Eq)]
+#[derive(Clone, Copy, PartialEq, Eq)]
 pub struct Done {
     pub distance: i32,
     pub value: u64,

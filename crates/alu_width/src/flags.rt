@@ -1,5 +1,5 @@
 /// The four flags of x86-64 that are kept. The parity and the adjust flag are not.
-#[derive(Clone, Copy, PartialEq, Eq, Debug)]
+#[derive(Clone, Copy, Debug, PartialEq, Eq)]
 pub struct Flags {
     /// Carry.
     pub cf: bool,
@@ -12,7 +12,7 @@ pub struct Flags {
 }
 
 /// What an operation leaves: a value of W bits, in the low bits of a `u64`, and the four flags.
-#[derive(Clone, Copy, PartialEq, Eq, Debug)]
+#[derive(Clone, Copy, Debug, PartialEq, Eq)]
 pub struct Outcome {
     pub value: u64,
     pub flags: Flags,

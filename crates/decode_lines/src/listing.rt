@@ -7,7 +7,7 @@ use x64_decode::{DecodeFault, decode_one};
 use x64_syntax::Instr;
 
 /// What a line of a listing says of an instruction.
-#[derive(Clone, Copy, Debug, PartialEq, Eq)]
+#[derive(Clone, Copy, PartialEq, Eq)]
 pub enum Style {
     /// Its length and its name, as `4 mov`.
     Names,

@@ -7,7 +7,7 @@ use std::alloc::AllocError;
 
 /// A field of a file's structures (System V gABI, chapter 4, data representation): a number in one,
 /// two, four or eight bytes, the lowest first.
-#[derive(Clone, Copy, Debug, PartialEq, Eq)]
+#[derive(Clone, Copy, PartialEq, Eq)]
 pub enum Field {
     Byte(u8),
     Half(u16),

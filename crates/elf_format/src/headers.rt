@@ -18,7 +18,7 @@ const SECTION_HEADER_SIZE: u16 = 64;
 /// section has the sections' names.
 ///
 /// The program headers stand directly behind it.
-#[derive(Clone, Copy, Debug, PartialEq, Eq)]
+#[derive(Clone, Copy, PartialEq, Eq)]
 pub struct FileHeader {
     pub machine: u16,
     pub entry: u64,
@@ -32,7 +32,7 @@ pub struct FileHeader {
 /// bytes, its address in memory, and its sizes in file and memory.
 ///
 /// Its physical address is its address, and its alignment 4,096.
-#[derive(Clone, Copy, Debug, PartialEq, Eq)]
+#[derive(Clone, Copy, PartialEq, Eq)]
 pub struct ProgramHeader {
     pub flags: u32,
     pub offset: u64,
@@ -42,7 +42,7 @@ pub struct ProgramHeader {
 }
 
 /// A section's header, with flags and address 0; its kind is SHT_SYMTAB 2 or SHT_STRTAB 3.
-#[derive(Clone, Copy, Debug, PartialEq, Eq)]
+#[derive(Clone, Copy, PartialEq, Eq)]
 pub struct SectionHeader {
     pub name: u32,
     pub kind: u32,

@@ -9,7 +9,7 @@ use std::alloc::AllocError;
 
 /// A global symbol of a function with an absolute value, its address (SHN_ABS); its name is any bytes
 /// but zeros.
-#[derive(Debug, Drop)]
+#[derive(Drop)]
 pub struct Symbol {
     pub name: List<u8>,
     pub address: u64,

@@ -19,7 +19,7 @@ pub const PF_R: u64 = 4;
 /// `bytes` and then zeros.
 ///
 /// The flags are those of its program header, whole: X 1, W 2, R 4.
-#[derive(Debug, Drop)]
+#[derive(Drop)]
 pub struct Segment {
     pub address: u64,
     pub size: u64,
@@ -29,7 +29,7 @@ pub struct Segment {
 
 /// A program for x86-64: its segments in the order of their program headers, where its threads begin,
 /// and where its listed calls are.
-#[derive(Debug, Drop)]
+#[derive(Drop)]
 pub struct Elf {
     pub segments: List<Segment>,
     pub threads: List<u64>,

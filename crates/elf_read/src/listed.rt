@@ -6,7 +6,7 @@ ghost use Rattle.elf_read.specs.declared.listed.Listed.TheVariants.{Thread};
 use crate::bytes::is_same;
 
 /// A name that counts among the symbols of a file.
-#[derive(Clone, Copy, Debug, PartialEq, Eq)]
+#[derive(Clone, Copy, PartialEq, Eq)]
 pub enum Listed {
     /// `lsg_input`
     Input,

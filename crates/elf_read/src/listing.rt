@@ -11,7 +11,7 @@ use crate::symbols::{SYMBOL_SIZE, listed_at, symbol_count};
 use std::alloc::{AllocError, Global};
 
 /// Where the symbols with listed names are.
-#[derive(Clone, Copy, Debug, PartialEq, Eq)]
+#[derive(Clone, Copy, PartialEq, Eq)]
 pub struct Listing {
     pub input: Option<u64>,
     pub output: Option<u64>,

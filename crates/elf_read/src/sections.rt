@@ -23,7 +23,7 @@ const SHT_STRTAB: u32 = 3;
 const SHF_COMPRESSED: u64 = 0x800;
 
 /// A section header: what its fields say of a section's bytes.
-#[derive(Clone, Copy, Debug, PartialEq, Eq)]
+#[derive(Clone, Copy, PartialEq, Eq)]
 pub struct SectionHeader {
     pub kind: u32,
     pub flags: u64,

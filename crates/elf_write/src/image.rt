@@ -3,7 +3,7 @@ use ev_graph::List;
 /// A segment of an image: `size` bytes of memory from `address` on, first `bytes` and then zeros.
 ///
 /// The flags are those of a program header: W 2 and R 4.
-#[derive(Debug, Drop)]
+#[derive(Drop)]
 pub struct ImageSegment {
     pub address: u64,
     pub size: u64,
@@ -13,7 +13,7 @@ pub struct ImageSegment {
 
 /// An AArch64 program: its segments, the words of its code, which stands at `code_address` and may only
 /// be executed, and where each thread begins.
-#[derive(Debug, Drop)]
+#[derive(Drop)]
 pub struct Image {
     pub segments: List<ImageSegment>,
     pub code_address: u64,

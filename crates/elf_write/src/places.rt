@@ -5,7 +5,7 @@ ghost use Rattle.elf_write.specs.ImageFile.{offset_after, places_from};
 use ev_graph::NoMemory;
 
 /// Where what follows the parts of an image stands in its file.
-#[derive(Clone, Copy, Debug, PartialEq, Eq)]
+#[derive(Clone, Copy, PartialEq, Eq)]
 pub struct Places {
     pub symbols: u64,
     pub strings: u64,

@@ -14,7 +14,7 @@ use ev_graph::{List, NoMemory};
 use std::alloc::{AllocError, Global};
 
 /// The symbol table and the string table of an image's threads.
-#[derive(Debug, Drop)]
+#[derive(Drop)]
 pub struct Tables {
     pub symbols: List<u8>,
     pub strings: List<u8>,

@@ -1,12 +1,12 @@
 /// An access of an execution, named by its thread and by how many accesses stand before it there.
-#[derive(Clone, Copy, Debug, PartialEq, Eq, PartialOrd, Ord, Hash)]
+#[derive(Clone, Copy, Debug, PartialEq, Eq)]
 pub struct EventId {
     pub thread: u32,
     pub index: u32,
 }
 
 /// Whether an access reads or writes.
-#[derive(Clone, Copy, Debug, PartialEq, Eq, Hash)]
+#[derive(Clone, Copy, Debug, PartialEq, Eq)]
 pub enum AccessKind {
     Read,
     Write,
@@ -16,7 +16,7 @@ pub enum AccessKind {
 ///
 /// `value` is little-endian and below 256 to the power of `size`. A locked read and the locked write
 /// after it are one atomic pair. `place` is the address of the instruction.
-#[derive(Clone, Copy, Debug, PartialEq, Eq, Hash)]
+#[derive(Clone, Copy, Debug, PartialEq, Eq)]
 pub struct Access {
     pub id: EventId,
     pub kind: AccessKind,
@@ -29,7 +29,7 @@ pub struct Access {
 
 /// The fences of the intermediate form (`Frm`, `Fww`, `Fsc`), of x86 (`Mfence`) and of Arm (`DMB`
 /// with the options `ISHLD`, `ISHST` and `ISH`).
-#[derive(Clone, Copy, Debug, PartialEq, Eq, Hash)]
+#[derive(Clone, Copy, Debug, PartialEq, Eq)]
 pub enum FenceKind {
     Frm,
     Fww,
@@ -41,21 +41,21 @@ pub enum FenceKind {
 }
 
 /// A fence, and the address of its instruction.
-#[derive(Clone, Copy, Debug, PartialEq, Eq, Hash)]
+#[derive(Clone, Copy, PartialEq, Eq)]
 pub struct FenceItem {
     pub kind: FenceKind,
     pub place: u64,
 }
 
 /// A value that comes in or goes out, and the address of its instruction.
-#[derive(Clone, Copy, Debug, PartialEq, Eq, Hash)]
+#[derive(Clone, Copy, PartialEq, Eq)]
 pub struct Transfer {
     pub value: u64,
     pub place: u64,
 }
 
 /// What a thread makes, one after another.
-#[derive(Clone, Copy, Debug, PartialEq, Eq, Hash)]
+#[derive(Clone, Copy, PartialEq, Eq)]
 pub enum Item {
     Access(Access),
     Fence(FenceItem),
@@ -64,7 +64,7 @@ pub enum Item {
 }
 
 /// Why a thread ends before it halts.
-#[derive(Clone, Copy, Debug, PartialEq, Eq, Hash)]
+#[derive(Clone, Copy, Debug, PartialEq, Eq)]
 pub enum TrapKind {
     BadAccess,
     Divide,
@@ -74,7 +74,7 @@ pub enum TrapKind {
 }
 
 /// How far a thread has come: `Running` where its run is cut.
-#[derive(Clone, Copy, Debug, PartialEq, Eq, Hash)]
+#[derive(Clone, Copy, Debug, PartialEq, Eq)]
 pub enum End {
     Running,
     Halted,

@@ -3,7 +3,7 @@ use std::error::Error;
 use std::fmt;
 
 /// Memory ran out. Each call that answers it has changed nothing that outlives the call.
-#[derive(Clone, Copy, Debug, PartialEq, Eq, Hash)]
+#[derive(Clone, Copy, Debug, PartialEq, Eq)]
 pub struct NoMemory;
 
 impl fmt::Display for NoMemory {

@@ -1,7 +1,7 @@
 use ev_graph::{End, EventId, List, Source, Stack};
 
 /// A value that a thread is given, in the order in which it takes them.
-#[derive(Debug, Drop)]
+#[derive(Drop)]
 pub enum Given {
     /// The value of a read, and its sources: one for each byte, or one for all.
     Read(u64, List<Source>),
@@ -11,7 +11,7 @@ pub enum Given {
 
 /// What a text says of a thread: how many accesses, inputs and outputs it makes, how it ends, and
 /// the values of its reads and inputs.
-#[derive(Debug, Drop)]
+#[derive(Drop)]
 pub struct GivenThread {
     pub count: u32,
     pub end: End,
@@ -19,7 +19,7 @@ pub struct GivenThread {
 }
 
 /// What the text of an execution says: a stack for each thread, the threads, and an order of writes.
-#[derive(Debug, Drop)]
+#[derive(Drop)]
 pub struct ExecFile {
     pub stacks: List<Stack>,
     pub threads: List<GivenThread>,

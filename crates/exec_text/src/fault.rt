@@ -7,7 +7,7 @@ use std::fmt;
 use thiserror::Error;
 
 /// How a line leaves the grammar.
-#[derive(Clone, Copy, Debug, PartialEq, Eq, Hash)]
+#[derive(Clone, Copy, Debug, PartialEq, Eq)]
 pub enum TextKind {
     /// It is none of the lines that may come here, or is not there.
     Shape,
@@ -25,7 +25,7 @@ impl fmt::Display for TextKind {
 }
 
 /// The first line that leaves the grammar, counted from 1.
-#[derive(Clone, Copy, Debug, PartialEq, Eq, Hash, Error)]
+#[derive(Clone, Copy, Debug, PartialEq, Eq, Error)]
 #[error("line {line}: {kind}")]
 pub struct TextFault {
     pub line: u32,
@@ -33,7 +33,7 @@ pub struct TextFault {
 }
 
 /// Why a text was not read.
-#[derive(Clone, Copy, Debug, PartialEq, Eq, Hash, Error)]
+#[derive(Clone, Copy, Debug, PartialEq, Eq, Error)]
 pub enum ReadFault {
     #[error("{0}")]
     Text(#[from] TextFault),
@@ -48,7 +48,7 @@ impl From<NoMemory> for ReadFault {
 }
 
 /// Why a line, or a part of one, was not read.
-#[derive(Clone, Copy, Debug, PartialEq, Eq)]
+#[derive(Clone, Copy, PartialEq, Eq)]
 pub enum LineFault {
     Kind(TextKind),
     NoMemory,

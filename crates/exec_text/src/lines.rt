@@ -12,7 +12,7 @@ use crate::parts::Parts;
 use ev_graph::{End, Stack, TrapKind};
 
 /// The first field of a line, which says what line it is.
-#[derive(Clone, Copy, Debug, PartialEq, Eq)]
+#[derive(Clone, Copy, PartialEq, Eq)]
 pub enum Word {
     Title,
     Stack,

@@ -22,7 +22,7 @@ const MOST_ITEMS: u64 = 4096;
 const SHAPE: LineFault = LineFault::Kind(TextKind::Shape);
 
 /// What the lines so far have said.
-#[derive(Debug, Drop)]
+#[derive(Drop)]
 pub enum Stage {
     /// Nothing.
     Begun,

@@ -9,14 +9,14 @@ use std::alloc::Global;
 use straight_line::translate_line;
 
 /// Where the words of a line begin among those of all lines: the line's address, and a number of words.
-#[derive(Clone, Copy, Debug, PartialEq, Eq)]
+#[derive(Clone, Copy, PartialEq, Eq)]
 pub struct LaidLine {
     pub first: u64,
     pub start: u64,
 }
 
 /// The code of lines: their words, one line behind the other, and where each begins.
-#[derive(Debug, Drop)]
+#[derive(Drop)]
 pub struct LaidCode {
     pub words: List<u32>,
     pub laid: List<LaidLine>,

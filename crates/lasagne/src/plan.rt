@@ -5,14 +5,14 @@ ghost use Rattle.lasagne.specs.Counting.{AreAtMost, counts_of, nothing};
 use x64_syntax::{Slot, SlotKind};
 
 /// What stands in a block and counts for its plan.
-#[derive(Clone, Copy, Debug, PartialEq, Eq)]
+#[derive(Clone, Copy, PartialEq, Eq)]
 pub enum Mark {
     Access(Slot),
     FullFence,
 }
 
 /// The fences that a gap between accesses holds.
-#[derive(Clone, Copy, Debug, PartialEq, Eq)]
+#[derive(Clone, Copy, PartialEq, Eq)]
 pub struct Gap {
     pub frm: bool,
     pub fww: bool,
@@ -21,7 +21,7 @@ pub struct Gap {
 
 /// What is counted of a program: threads, instructions, blocks, accesses, private accesses, and the
 /// gaps that hold each kind of fence.
-#[derive(Clone, Copy, Debug, PartialEq, Eq)]
+#[derive(Clone, Copy, PartialEq, Eq)]
 pub struct Summary {
     pub threads: u32,
     pub instructions: u32,
@@ -34,7 +34,7 @@ pub struct Summary {
 }
 
 /// What is counted of a block: its accesses, and the gaps that hold each kind of fence.
-#[derive(Clone, Copy, Debug, PartialEq, Eq)]
+#[derive(Clone, Copy, PartialEq, Eq)]
 pub struct Counts {
     pub accesses: u32,
     pub frm: u32,

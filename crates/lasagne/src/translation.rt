@@ -15,7 +15,7 @@ use line_read::read_lines;
 use std::alloc::Global;
 
 /// Why a file was not translated.
-#[derive(Clone, Copy, Debug, PartialEq, Eq)]
+#[derive(Clone, Copy, PartialEq, Eq)]
 pub enum TranslateFault {
     File(FileFault),
     /// At this address a thread's line has code that is not translated so far.
@@ -24,7 +24,7 @@ pub enum TranslateFault {
 }
 
 /// What a translation gives: the image's file, and the summary of the input.
-#[derive(Debug, Drop)]
+#[derive(Drop)]
 pub struct Translated {
     pub file: List<u8>,
     pub summary: Summary,

@@ -7,7 +7,7 @@ use std::alloc::Global;
 use std::marker::Model;
 
 /// A few steps, which take no memory up to 32 of them. Contracts see them as a list.
-#[derive(Debug, Drop)]
+#[derive(Drop)]
 pub struct SmallSteps {
     steps: SmallVec<IrStep, 32>,
 }

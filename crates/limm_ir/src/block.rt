@@ -17,7 +17,7 @@ pub enum IrEnd {
 }
 
 /// A block: the address of its first x86 instruction, its steps, and its end.
-#[derive(Debug, Drop)]
+#[derive(Drop)]
 pub struct IrBlock {
     pub first: u64,
     pub steps: List<IrStep>,

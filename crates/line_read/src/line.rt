@@ -13,7 +13,7 @@ use std::alloc::Global;
 use x64_syntax::Placed;
 
 /// A straight line: where it begins, the address behind its last byte, and its instructions.
-#[derive(Debug, Drop)]
+#[derive(Drop)]
 pub struct Line {
     pub first: u64,
     pub end: u64,

@@ -10,7 +10,7 @@ use elf_read::{Elf, Segment};
 const LIMIT: usize = 15;
 
 /// The first bytes of code from an address on: as many of `bytes` as `count` says, 15 at most.
-#[derive(Clone, Copy, Debug)]
+#[derive(Clone, Copy)]
 pub struct Window {
     pub bytes: [u8; LIMIT],
     pub count: usize,

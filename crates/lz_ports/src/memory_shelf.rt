@@ -9,7 +9,7 @@ use std::alloc::{AllocError, Global};
 use std::marker::Model;
 
 /// A file and its name, for a shelf in memory.
-#[derive(Debug, Drop)]
+#[derive(Drop)]
 pub struct NamedFile {
     pub name: String,
     pub bytes: Vec<u8>,
@@ -37,7 +37,7 @@ fn place_of(files: &[NamedFile], name: &str) -> Option<usize>
 }
 
 /// A shelf in memory, some of whose calls fail.
-#[derive(Debug, Drop)]
+#[derive(Drop)]
 pub struct MemShelf {
     alloc: Global,
     files: Vec<NamedFile>,

@@ -4,7 +4,7 @@ ghost use Rattle.lz_ports.specs.Ports.{Files, Rose, HasCause, IsPut, IsTorn, IsL
 use std::alloc::Global;
 
 /// Why a file was not given.
-#[derive(Clone, Copy, Debug, PartialEq, Eq)]
+#[derive(Clone, Copy, PartialEq, Eq)]
 pub enum GetFault {
     /// The shelf's count of faults rose: the file is absent, or it could not be read.
     Failed,
@@ -14,7 +14,7 @@ pub enum GetFault {
 }
 
 /// Why a file was not kept.
-#[derive(Clone, Copy, Debug, PartialEq, Eq)]
+#[derive(Clone, Copy, PartialEq, Eq)]
 pub enum PutFault {
     /// The shelf's count of faults rose: the file is as before or holds a prefix of the bytes.
     Failed,

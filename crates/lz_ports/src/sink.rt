@@ -2,7 +2,7 @@ ghost use Rattle.std.specs.Prelude.{◌≡◌, ℕ, List, Option, OnOk};
 ghost use Rattle.lz_ports.specs.Ports.{HasCause, Told, Took, TookPart};
 
 /// Why a text was not taken.
-#[derive(Clone, Copy, Debug, PartialEq, Eq)]
+#[derive(Clone, Copy, PartialEq, Eq)]
 pub enum SinkFault {
     /// The sink's count of faults rose: a prefix of the bytes was taken.
     Failed,

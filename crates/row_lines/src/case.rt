@@ -8,7 +8,7 @@ use x64_table::X64State;
 const PLACE: u64 = 0x3000_8000;
 
 /// An instruction's bytes, and the state and memory from which it is taken.
-#[derive(Debug, Drop)]
+#[derive(Drop)]
 pub struct Case {
     pub code: Vec<u8>,
     pub state: X64State,

@@ -7,7 +7,7 @@ use ev_graph::StartMemory;
 const BASE: u64 = 0x2000_0000;
 
 /// The 64 bytes of memory that a case has, from `BASE` on, all of which may be read and written.
-#[derive(Clone, Copy, Debug, PartialEq, Eq)]
+#[derive(Clone, Copy, PartialEq, Eq)]
 pub struct Window {
     pub bytes: [u8; 64],
 }
@@ -57,7 +57,7 @@ impl Window {
 
 /// What may be done in a window: reading, and writing where it is writable. The bytes that a case begins with are not told
 /// here.
-#[derive(Clone, Copy, Debug, PartialEq, Eq)]
+#[derive(Clone, Copy, PartialEq, Eq)]
 pub struct Permission {
     pub writable: bool,
 }

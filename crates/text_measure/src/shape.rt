@@ -6,7 +6,7 @@ use std::alloc::{AllocError, Global};
 const SIZE: usize = 16_777_216;
 
 /// A text that repeats one piece.
-#[derive(Clone, Copy, Debug)]
+#[derive(Clone, Copy)]
 pub enum Shape {
     /// One order of millions of events.
     Order,

@@ -10,7 +10,7 @@ use ev_graph::NoMemory;
 use std::alloc::Global;
 
 /// How far the walk has come with a number.
-#[derive(Clone, Copy, Debug, PartialEq, Eq)]
+#[derive(Clone, Copy, PartialEq, Eq)]
 pub enum Mark {
     /// The walk has not come to it.
     New,

@@ -15,7 +15,7 @@ mod tests;
 const LIMIT: usize = 15;
 
 /// Why bytes begin with no instruction.
-#[derive(Clone, Copy, Debug, PartialEq, Eq, PartialOrd, Ord, Hash)]
+#[derive(Clone, Copy, Debug, PartialEq, Eq)]
 pub enum DecodeFault {
     /// They are cut off: with more bytes, 15 in all at most, they are an instruction.
     Cut,

@@ -10,7 +10,7 @@ use crate::rows::rows;
 use x64_syntax::Instr;
 
 /// How far bytes go towards a spelling.
-#[derive(Clone, Copy, Debug)]
+#[derive(Clone, Copy)]
 pub enum Reading {
     /// They begin with an instruction, of so many bytes.
     Done(Instr, usize),

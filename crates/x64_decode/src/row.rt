@@ -1,7 +1,7 @@
 use x64_syntax::{AluOp, ShiftOp, Width};
 
 /// The bytes of an opcode, with those that an exactly spelled instruction has after it.
-#[derive(Clone, Copy, Debug)]
+#[derive(Clone, Copy)]
 pub enum Code {
     One(u8),
     Two(u8, u8),
@@ -10,7 +10,7 @@ pub enum Code {
 }
 
 /// The width of an instruction or operand; `Operand` is the width that REX.W and 66 choose.
-#[derive(Clone, Copy, Debug)]
+#[derive(Clone, Copy)]
 pub enum Size {
     Byte,
     Word,
@@ -20,7 +20,7 @@ pub enum Size {
 }
 
 /// Where an operand is taken from.
-#[derive(Clone, Copy, Debug)]
+#[derive(Clone, Copy)]
 pub enum Place {
     /// There is no such operand.
     Absent,
@@ -49,7 +49,7 @@ pub enum Place {
 }
 
 /// Whether F0 may or must stand before a row's instruction; with a register it never may.
-#[derive(Clone, Copy, Debug)]
+#[derive(Clone, Copy)]
 pub enum Lock {
     Never,
     WithMemory,
@@ -57,7 +57,7 @@ pub enum Lock {
 }
 
 /// What may stand before a row's opcode.
-#[derive(Clone, Copy, Debug)]
+#[derive(Clone, Copy)]
 pub enum Before {
     Anything,
     /// No 66.
@@ -72,7 +72,7 @@ pub enum Before {
 
 /// An instruction without its operands. Numbers are condition codes; the width of `MovZx` and `MovSx`
 /// is their source's.
-#[derive(Clone, Copy, Debug)]
+#[derive(Clone, Copy)]
 pub enum Name {
     Alu(AluOp),
     Test,
@@ -117,7 +117,7 @@ pub enum Name {
 
 /// A row of the opcode table: a code, the number in ModRM's reg field where that is part of the opcode,
 /// the instruction's width, its operands, and what may stand before it.
-#[derive(Clone, Copy, Debug)]
+#[derive(Clone, Copy)]
 pub struct Row {
     pub code: Code,
     pub digit: Option<u8>,
@@ -132,7 +132,7 @@ pub struct Row {
 
 /// What stands before an opcode: whether 66 and F0 are among the prefixes, the REX byte, and how many
 /// bytes that is together.
-#[derive(Clone, Copy, Debug)]
+#[derive(Clone, Copy)]
 pub struct Front {
     pub word: bool,
     pub lock: bool,

@@ -1,7 +1,7 @@
 use crate::{Cond, Operand, Width};
 
 /// The operations of the first eight opcode groups, in the order in which ModRM's reg field numbers them.
-#[derive(Clone, Copy, Debug, PartialEq, Eq, PartialOrd, Ord, Hash)]
+#[derive(Clone, Copy, Debug, PartialEq, Eq)]
 pub enum AluOp {
     Add,
     Or,
@@ -14,7 +14,7 @@ pub enum AluOp {
 }
 
 /// Shifts and rotates.
-#[derive(Clone, Copy, Debug, PartialEq, Eq, PartialOrd, Ord, Hash)]
+#[derive(Clone, Copy, Debug, PartialEq, Eq)]
 pub enum ShiftOp {
     Rol,
     Ror,
@@ -31,7 +31,7 @@ pub enum ShiftOp {
 /// The count of `Shift` is an immediate of 8 bits without sign, or the register 1 (`cl`). The number of
 /// `Call`, `Jmp` and `Jcc` is the sign-extended displacement modulo 2^64, counted from the address after
 /// the instruction. `Widen` is CBW, CWDE and CDQE, and `SignFill` is CWD, CDQ and CQO.
-#[derive(Clone, Copy, Debug, PartialEq, Eq, PartialOrd, Ord, Hash)]
+#[derive(Clone, Copy, Debug, PartialEq, Eq)]
 pub enum Instr {
     Alu(AluOp, Width, Operand, Operand, bool),
     Test(Width, Operand, Operand),

@@ -5,14 +5,14 @@ use crate::{AluOp, Flow, Instr, Mem, Operand, Slot, SlotKind};
 
 /// Where an instruction's access is: at its memory operand, or on the stack without being named, as
 /// of PUSH, POP, CALL, RET and LEAVE.
-#[derive(Clone, Copy, Debug, PartialEq, Eq, PartialOrd, Ord, Hash)]
+#[derive(Clone, Copy, PartialEq, Eq)]
 pub enum SlotPlace {
     Operand(Mem),
     Stack,
 }
 
 /// An access of an instruction: what it does, and where.
-#[derive(Clone, Copy, Debug, PartialEq, Eq, PartialOrd, Ord, Hash)]
+#[derive(Clone, Copy, PartialEq, Eq)]
 pub struct InstrSlot {
     pub kind: SlotKind,
     pub place: SlotPlace,
@@ -31,7 +31,7 @@ impl InstrSlot {
 }
 
 /// The accesses of one instruction, in order: at most two, and of two a read and then a write.
-#[derive(Clone, Copy, Debug, PartialEq, Eq, PartialOrd, Ord, Hash)]
+#[derive(Clone, Copy, PartialEq, Eq)]
 pub enum InstrSlots {
     Empty,
     One(InstrSlot),

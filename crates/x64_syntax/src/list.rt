@@ -5,7 +5,7 @@ use std::marker::Model;
 /// A `Vec` that contracts see as the list of its elements.
 ///
 /// It is made from a `Vec` and gives it back; neither takes memory.
-#[derive(Debug, Drop)]
+#[derive(Drop)]
 pub struct List<T> {
     items: Vec<T>,
 }

@@ -1,5 +1,5 @@
 /// A width of an operand: 8, 16, 32 or 64 bits.
-#[derive(Clone, Copy, Debug, PartialEq, Eq, PartialOrd, Ord, Hash)]
+#[derive(Clone, Copy, Debug, PartialEq, Eq)]
 pub enum Width {
     Byte,
     Word,
@@ -10,7 +10,7 @@ pub enum Width {
 /// A general register by its number, 0 (`rax`) to 15 (`r15`), as ModRM and REX number them.
 ///
 /// `high` is true for `ah`, `ch`, `dh` and `bh`, whose numbers are 0 to 3, and false for all others.
-#[derive(Clone, Copy, Debug, PartialEq, Eq, PartialOrd, Ord, Hash)]
+#[derive(Clone, Copy, Debug, PartialEq, Eq)]
 pub struct Reg {
     pub number: u8,
     pub high: bool,
@@ -21,7 +21,7 @@ pub struct Reg {
 /// Base and index are register numbers, 0 to 15. The scale is 1, 2, 4 or 8, and 1 without an index.
 /// Where `rip` is true the offset counts from the address after the instruction, and there is neither
 /// base nor index.
-#[derive(Clone, Copy, Debug, PartialEq, Eq, PartialOrd, Ord, Hash)]
+#[derive(Clone, Copy, Debug, PartialEq, Eq)]
 pub struct Mem {
     pub base: Option<u8>,
     pub index: Option<u8>,
@@ -31,7 +31,7 @@ pub struct Mem {
 }
 
 /// An operand: a register, memory, or a number below 2 to the power of the instruction's width.
-#[derive(Clone, Copy, Debug, PartialEq, Eq, PartialOrd, Ord, Hash)]
+#[derive(Clone, Copy, Debug, PartialEq, Eq)]
 pub enum Operand {
     Reg(Reg),
     Mem(Mem),
@@ -39,7 +39,7 @@ pub enum Operand {
 }
 
 /// A condition by its code, 0 to 15 without 10 and 11: the low four bits of the opcodes of Jcc, SETcc and CMOVcc.
-#[derive(Clone, Copy, Debug, PartialEq, Eq, PartialOrd, Ord, Hash)]
+#[derive(Clone, Copy, Debug, PartialEq, Eq)]
 pub struct Cond {
     pub code: u8,
 }

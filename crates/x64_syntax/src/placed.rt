@@ -5,7 +5,7 @@ use crate::Instr;
 /// addresses (`TableJump`).
 ///
 /// `ListedIn` and `ListedOut` fit `Call` and `Jmp` alone, and `TableJump` fits a `JmpInd` alone.
-#[derive(Clone, Copy, Debug, PartialEq, Eq, PartialOrd, Ord, Hash)]
+#[derive(Clone, Copy, PartialEq, Eq)]
 pub enum Flow {
     Plain,
     ListedIn,
@@ -14,7 +14,7 @@ pub enum Flow {
 }
 
 /// An instruction at an address, with its length in bytes, 1 to 15, and its flow.
-#[derive(Clone, Copy, Debug, PartialEq, Eq, PartialOrd, Ord, Hash)]
+#[derive(Clone, Copy, PartialEq, Eq)]
 pub struct Placed {
     pub address: u64,
     pub length: u8,

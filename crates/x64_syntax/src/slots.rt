@@ -1,7 +1,7 @@
 use crate::List;
 
 /// How an instruction's slot accesses memory: a locked slot is one atomic pair.
-#[derive(Clone, Copy, Debug, PartialEq, Eq, PartialOrd, Ord, Hash)]
+#[derive(Clone, Copy, PartialEq, Eq)]
 pub enum SlotKind {
     Read,
     Write,
@@ -9,14 +9,14 @@ pub enum SlotKind {
 }
 
 /// An access that an instruction makes, by the instruction's address.
-#[derive(Clone, Copy, Debug, PartialEq, Eq, PartialOrd, Ord, Hash)]
+#[derive(Clone, Copy, PartialEq, Eq)]
 pub struct Slot {
     pub address: u64,
     pub kind: SlotKind,
 }
 
 /// Slots, sorted by address and then `Read` before `Write`.
-#[derive(Debug, Drop)]
+#[derive(Drop)]
 pub struct Marks {
     pub slots: List<Slot>,
 }
