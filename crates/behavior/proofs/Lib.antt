@@ -14,3 +14,4 @@ pub mod Ticks
 pub mod Results
 pub mod Banks
 pub mod Lists
+pub mod Rests

@@ -6,3 +6,5 @@ pub mod Acts
 pub mod Kept
 pub mod Explained
 pub mod Leaving
+pub mod Rest
+pub mod Passed
