@@ -23,7 +23,7 @@ impl Model for Nodes {
 
 impl Nodes {
     /// No nodes.
-    pub(crate) fn new(alloc: Global) -> Nodes
+    pub fn new(alloc: Global) -> Nodes
         ensures { result ≡ [] }
     {
         Nodes {
@@ -32,7 +32,7 @@ impl Nodes {
     }
 
     /// Puts a node last, unless it is there.
-    pub(crate) fn add(&mut self, node: u64) -> Result<(), NoMemory>
+    pub fn add(&mut self, node: u64) -> Result<(), NoMemory>
         ensures { OnOk result (AddsOne self.old node self.new) }
     {
         self.set.insert(node)?;
@@ -40,7 +40,7 @@ impl Nodes {
     }
 
     /// Puts last those of the nodes that are not there.
-    pub(crate) fn add_all(&mut self, more: &[u64]) -> Result<(), NoMemory>
+    pub fn add_all(&mut self, more: &[u64]) -> Result<(), NoMemory>
         ensures { OnOk result (Adds self.old more.now self.new) }
     {
         for node in more {

@@ -102,6 +102,7 @@ fn file_fault_text(alloc: Global, fault: FileFault) -> Result<String, AllocError
         FileFault::TooMuchCode => String::from_str(alloc, "TooMuchCode"),
         FileFault::BadCode(fault) => code_fault_text(alloc, fault),
         FileFault::Indirect(a) => addressed(alloc, "Indirect ", a),
+        FileFault::UnbuiltCode(a) => addressed(alloc, "UnbuiltCode ", a),
         FileFault::Overlap(a) => addressed(alloc, "Overlap ", a),
         FileFault::TableEntered(a) => addressed(alloc, "TableEntered ", a),
         FileFault::UndefinedFlag(a) => addressed(alloc, "UndefinedFlag ", a),

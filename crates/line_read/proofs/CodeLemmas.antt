@@ -1,4 +1,4 @@
--- The bytes of code, and the one instruction that stands at an address.
+-- The one instruction that stands at an address.
 use Rattle.std.proofs.Common.{◌≡◌, ℕ, ◌+◌, ◌-◌, ◌^◌, ◌<◌, ◌≤◌, min, Bool, true, false, ◌&&◌, List, [], ◌∷◌, ◌++◌, length, take, drop, replicate, get_or, Ok, Err, arith, refl, sym, ap, ◌∙◌, subst, inl, inr, length-append, length-take, length-drop}
 use Rattle.std.specs.Prelude.{◌⊎◌, if◌then◌else◌, nat_le, nat_lt}
 use Rattle.std.specs.List.{AllByRecursion}
@@ -14,56 +14,10 @@ use Rattle.x64_decode.specs.declared.decode.DecodeFault.{DecodeFault}
 use Rattle.x64_decode.specs.Spelling.{Spells, Answers}
 use Rattle.x64_decode.proofs.CallerLemmas.{spellings-alone, spelling-some, decoded, refused}
 use Rattle.elf_read.specs.Elf.{IsSegment}
-use Rattle.line_read.specs.Line.{memory_bytes, code_from, StandsAt, Code, MayStand}
+use Rattle.line_read.specs.Line.{StandsAt, Code, MayStand}
 use Rattle.lift_alu.specs.Built.{is_built}
-
--- a part's memory has as many bytes as it says
-pub length-memory_bytes : (part : Part) → length (memory_bytes part) ≡ part.size
-length-memory_bytes part =
-    let whole = length-append (take part.size part.bytes) (replicate (part.size - length part.bytes) 0) in
-    let front = length-take part.size part.bytes in
-    let behind = length-replicate {A = ℕ} (part.size - length part.bytes) 0 in
-    omega (arith, whole, front, behind)
-
--- code ends where its part does
-code_within : (b : Bool) (part : Part) (parts : List Part) (address n : ℕ) → (has_flag part.flags 1 && (nat_le part.address address && nat_lt address (part.address + part.size))) ≡ b
-    → IsSegment part → (n ≤ length (code_from parts address) → 0 < n → address + n ≤ 2 ^ 46) → 0 < n
-    → n ≤ length (if b then drop (address - part.address) (memory_bytes part) else code_from parts address) → address + n ≤ 2 ^ 46
-code_within true part parts address n test segment others some within =
-    let rest = length-drop (address - part.address) (memory_bytes part) in
-    let whole = length-memory_bytes part in
-    let inside : part.address ≤ address = at_least (has_flag part.flags 1) test in
-    omega (arith, rest, whole, within, some, segment.low, inside)
-  where
-    at_least : (flag : Bool) → (flag && (nat_le part.address address && nat_lt address (part.address + part.size))) ≡ true → part.address ≤ address
-    at_least true e = grind (arith, nat_tests)
-    at_least false e = absurd cc
-code_within false part parts address n test segment others some within = others within some
-
-pub code_low : (parts : List Part) (address n : ℕ) → AllByRecursion IsSegment parts → 0 < n → n ≤ length (code_from parts address) → address + n ≤ 2 ^ 46
-code_low [] address n segments some within = absurd (omega (arith, some, within))
-code_low (part ∷ parts) address n segments some within =
-    code_within (has_flag part.flags 1 && (nat_le part.address address && nat_lt address (part.address + part.size))) part parts address n refl segments.0
-    (λ less positive. code_low parts address n segments.1 positive less) some within
-
--- bytes begin with one spelling at most
-spelled_once : (bytes : List ℕ) (n m : ℕ) (i j : Instr) → n ≤ m → m ≤ length bytes → Spells (take n bytes) i → Spells (take m bytes) j → (n ≡ m) × (i ≡ j)
-spelled_once bytes n m i j less within one other =
-    let parts : take m bytes ≡ take n bytes ++ take (m - n) (drop n bytes) =
-    ap (λ k. take k bytes) (let e : m ≡ n + (m - n) = omega (arith, less) in e) ∙ take-add n (m - n) bytes in
-    let alone = spellings-alone (take n bytes) (take (m - n) (drop n bytes)) i j one (subst (λ l. Spells l j) parts other) in
-    let whole : length (take m bytes) ≡ m = length-take-le m bytes within in
-    let front : length (take n bytes) ≡ n = length-take-le n bytes (omega (arith, less, within)) in
-    let same : length (take m bytes) ≡ length (take n bytes) + length (take (m - n) (drop n bytes)) = ap length parts ∙ length-append (take n bytes) (take (m - n) (drop n bytes)) in
-    let none : length (take (m - n) (drop n bytes)) ≡ 0 = ap length alone.0 in
-    (omega (arith, whole, front, same, none), alone.1)
-
-pub same_spelling : (bytes : List ℕ) (n m : ℕ) (i j : Instr) → n ≤ length bytes → m ≤ length bytes → Spells (take n bytes) i → Spells (take m bytes) j → (n ≡ m) × (i ≡ j)
-same_spelling bytes n m i j n_in m_in one other = by_order (cases_lt n m)
-  where
-    by_order : (n < m) ⊎ (m ≤ n) → (n ≡ m) × (i ≡ j)
-    by_order (inl less) = spelled_once bytes n m i j (omega (arith, less)) m_in one other
-    by_order (inr less) = let back = spelled_once bytes m n j i less n_in other one in (sym back.0, sym back.1)
+use Rattle.code_at.specs.Code.{code_from}
+use Rattle.code_at.proofs.CodeLemmas.{same_spelling, code_low, again}
 
 placed_same : (p q : Placed) → p.address ≡ q.address → p.length ≡ q.length → p.instr ≡ q.instr → p.flow ≡ q.flow → p ≡ q
 placed_same p q a l i f = λ k. record { address = a k; length = l k; instr = i k; flow = f k }
@@ -84,52 +38,6 @@ stands_some parts address p stands =
 -- it ends low
 pub stands_low : (parts : List Part) (address : ℕ) (p : Placed) → AllByRecursion IsSegment parts → StandsAt parts address p → address + p.length ≤ 2 ^ 46
 stands_low parts address p segments stands = code_low parts address p.length segments (stands_some parts address p stands) stands.within
-
--- ---- what a window shows
-
--- a byte of a part's memory
-memory_byte : (part : Part) (k : ℕ) → k < part.size → get_or (memory_bytes part) k 0 ≡ get_or part.bytes k 0
-memory_byte part k inside = by_order (cases_lt k (length part.bytes))
-  where
-    front : List ℕ
-    front = take part.size part.bytes
-
-    zeros : List ℕ
-    zeros = replicate (part.size - length part.bytes) 0
-
-    long : length front ≡ min part.size (length part.bytes)
-    long = length-take part.size part.bytes
-
-    by_order : (k < length part.bytes) ⊎ (length part.bytes ≤ k) → get_or (front ++ zeros) k 0 ≡ get_or part.bytes k 0
-    by_order (inl there) =
-        get_or_append_left front zeros 0 k (omega (arith, long, there, inside)) ∙ get_or-take part.size part.bytes k 0 inside
-    by_order (inr past) =
-        let place : k ≡ length front + (k - length front) = omega (arith, long, past, inside) in
-        let zero' : k - length front < part.size - length part.bytes = omega (arith, long, past, inside) in
-        ap (λ j. get_or (front ++ zeros) j 0) place ∙ get_or-append-add front zeros (k - length front) 0
-        ∙ get_or-replicate (part.size - length part.bytes) (k - length front) 0 0 zero' ∙ sym (get_or_past part.bytes k 0 past)
-
-pub window_shown : (part : Part) (bytes : List ℕ) (offset count : ℕ) → length bytes ≡ 15 → count ≡ min (part.size - offset) 15 → offset < part.size
-    → ((j : ℕ) → j < 15 → get_or bytes j 0 ≡ get_or part.bytes (offset + j) 0) → take count bytes ≡ take 15 (drop offset (memory_bytes part))
-window_shown part bytes offset count long many inside same =
-    ext_get_or 0 (take count bytes) (take 15 (drop offset (memory_bytes part))) lengths (λ i lt. each i (omega (arith, lt, mine, many)))
-  where
-    mine : length (take count bytes) ≡ min count (length bytes)
-    mine = length-take count bytes
-
-    lengths : length (take count bytes) ≡ length (take 15 (drop offset (memory_bytes part)))
-    lengths = omega (arith, mine, long, many, length-take 15 (drop offset (memory_bytes part)), length-drop offset (memory_bytes part), length-memory_bytes part)
-
-    each : (i : ℕ) → i < count → get_or (take count bytes) i 0 ≡ get_or (take 15 (drop offset (memory_bytes part))) i 0
-    each i lt =
-        get_or-take count bytes i 0 lt ∙ same i (omega (arith, lt, many))
-        ∙ sym (get_or-take 15 (drop offset (memory_bytes part)) i 0 (omega (arith, lt, many)) ∙ get_or-drop offset (memory_bytes part) i 0
-        ∙ memory_byte part (offset + i) (omega (arith, lt, many, inside)))
-
--- ---- what the decoder says of it
-
-again : (bytes slice : List ℕ) → slice ≡ take 15 bytes → take 15 slice ≡ take 15 bytes
-again bytes slice same = ap (take 15) same ∙ take-take 15 15 bytes (omega arith)
 
 pub decoded_stands : (parts : List Part) (address : ℕ) (slice : List ℕ) (i : Instr) (n : ℕ) → slice ≡ take 15 (code_from parts address) → Answers (take 15 slice) (Ok (i, n))
     → StandsAt parts address (record { address = address; length = n; instr = i; flow = flow.Plain })

@@ -8,19 +8,8 @@ use Rattle.x64_syntax.specs.Formed.{IsFormed}
 use Rattle.x64_decode.specs.Spelling.{Spells}
 use Rattle.elf_read.specs.declared.elf.Elf.{Elf}
 use Rattle.elf_read.specs.Elf.{parts_of}
+use Rattle.code_at.specs.Code.{code_from}
 use Rattle.lift_alu.specs.Built.{is_built, ends_line}
-
--- the bytes that the memory of a part begins with
-abbrev pub memory_bytes : Part → List ℕ
-memory_bytes part = take part.size part.bytes ++ replicate (part.size - length part.bytes) 0
-
--- the bytes from an address to the end of the executable part in which it lies; none where it lies in none
-abbrev pub code_from : List Part → ℕ → List ℕ
-code_from [] address = []
-code_from (part ∷ parts) address =
-    if has_flag part.flags 1 && (nat_le part.address address && nat_lt address (part.address + part.size))
-    then drop (address - part.address) (memory_bytes part)
-    else code_from parts address
 
 -- this is the instruction whose spelling, of at most 15 bytes, stands at the address
 pub record StandsAt (parts : List Part) (address : ℕ) (p : Placed) : Type 0 where

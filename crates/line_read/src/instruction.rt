@@ -3,7 +3,7 @@ ghost use Rattle.x64_syntax.specs.declared.placed.Placed.{Placed};
 ghost use Rattle.elf_read.specs.Elf.{parts_of, IsProgram};
 ghost use Rattle.line_read.specs.Line.{StandsAt, MayStand, IsUnlisted, code_of};
 
-use crate::window::window_at;
+use code_at::window_at;
 use elf_read::Elf;
 use lift_alu::is_built;
 use x64_decode::decode_one;
@@ -17,7 +17,7 @@ fn instruction_at(elf: &Elf, address: u64) -> Option<Placed>
     ensures some { IfSome result (λ p. StandsAt (parts_of elf.now) address p) }
     ensures none { IfNone result ((p : Placed) → StandsAt (parts_of elf.now) address p → ⊥) }
 {
-    let window = window_at(elf, address);
+    let window = window_at(elf, address)?;
     match decode_one(window.as_slice()) {
         Ok((instr, length)) => Some(Placed {
             address,

@@ -9,7 +9,6 @@ mod line;
 mod lines;
 #[cfg(test)]
 mod tests;
-mod window;
 
 pub use fault::LineFault;
 pub use line::Line;

@@ -1,8 +1,8 @@
 use Rattle.std.proofs.Common.{◌≡◌, ◌≢◌, ◌+◌, ◌<◌, length, get_or, arith, ap, ◌∙◌, get_or-set_other, get_or-set_same, below_more}
 use Rattle.std.proofs.lemmas.List.{length-set}
 use Rattle.elf_read.specs.Elf.{segment_part}
-use Rattle.line_read.proofs.CodeLemmas.{window_shown}
-use Rattle.line_read.proofs.window.window_in.Goals as goal
+use Rattle.code_at.proofs.CodeLemmas.{window_shown}
+use Rattle.code_at.proofs.window.window_in.Goals as goal
 
 pub loop-k-preserved : goal.loop-k-preserved
 loop-k-preserved c =

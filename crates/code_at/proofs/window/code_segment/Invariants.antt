@@ -1,7 +1,7 @@
 use Rattle.std.proofs.Common.{◌≡◌, map, drop}
 use Rattle.elf_read.specs.Elf.{segment_part}
-use Rattle.line_read.specs.Line.{code_from}
-use Rattle.line_read.proofs.window.code_segment.Given as goal
+use Rattle.code_at.specs.Code.{code_from}
+use Rattle.code_at.proofs.window.code_segment.Given as goal
 
 abbrev pub invariant-loop-segment : goal.invariant-loop-segment
 invariant-loop-segment l =

@@ -1,8 +1,8 @@
-ghost use Rattle.std.specs.Prelude.{◌≡◌, ◌+◌, ◌-◌, ◌≤◌, ◌<◌, ◌↔◌, ℕ, min, drop, take, slice_index, IsTrue, IfSome, IfNone, [], length};
+ghost use Rattle.std.specs.Prelude.{◌≡◌, ◌+◌, ◌-◌, ◌≤◌, ◌<◌, ◌↔◌, ℕ, min, drop, take, slice_index, IsTrue, IfSome, IfNone, OnSome, [], length};
 ghost use Rattle.ev_graph.specs.Memory.{has_flag};
 ghost use Rattle.elf_read.specs.Elf.{segment_part, parts_of};
-ghost use Rattle.line_read.specs.Line.{code_from, memory_bytes};
-ghost use Rattle.line_read.specs.Window.{shown};
+ghost use Rattle.code_at.specs.Code.{code_from, memory_bytes, IsInCode};
+ghost use Rattle.code_at.specs.Window.{shown};
 
 use elf_read::{Elf, Segment};
 
@@ -73,16 +73,16 @@ fn window_in(segment: &Segment, offset: u64) -> Window
     Window { bytes, count }
 }
 
-/// The window from an address on, to the end of the executable segment in which it lies.
-pub fn window_at(elf: &Elf, address: u64) -> Window
-    ensures shown { shown result ≡ take 15 (code_from (parts_of elf.now) address) }
-    ensures count { result.count ≤ 15 }
+/// The window from an address on, to the end of the executable segment in which it lies; none where it lies in none.
+pub fn window_at(elf: &Elf, address: u64) -> Option<Window>
+    ensures shown { IfSome result (λ window. shown window ≡ take 15 (code_from (parts_of elf.now) address)) }
+    ensures count { IfSome result (λ window. window.count ≤ 15) }
+    ensures inside { OnSome result (IsInCode (parts_of elf.now) address) }
+    ensures none { IfNone result (code_from (parts_of elf.now) address ≡ []) }
+    ensures outside { IfNone result (IsInCode (parts_of elf.now) address → ⊥) }
 {
     match code_segment(elf, address) {
-        Some(segment) => window_in(segment, address - segment.address),
-        None => Window {
-            bytes: [0; LIMIT],
-            count: 0,
-        },
+        Some(segment) => Some(window_in(segment, address - segment.address)),
+        None => None,
     }
 }

@@ -1,0 +1,3 @@
+pub mod Code
+pub mod Window
+pub mod Kinds
