@@ -1,4 +1,5 @@
 pub mod Acyclic
 pub mod CallerLemmas
+pub mod DoorLemmas
 pub mod LocalLemmas
 pub mod StoreBufferingVerdicts

@@ -1,9 +1,10 @@
 //! The orders that x86-TSO, the intermediate form and Armv8 keep within a thread, and consistency under them.
-//! Others rest on `Consistent`, and on `OrderModel::local`, which names the first kind of the order that a pair has.
+//! Others rest on `Consistent`, on `OrderModel::local`, the first kind of the order that a pair has, and on its doors.
 //! Sources: Sewell et al., CACM 2010 (x86-TSO); Rocha et al., PLDI 2022 (LIMM); Arm ARM DDI 0487, B2.3 (Armv8).
 #![tactic(auto)]
 
 mod arm;
+mod doors;
 mod edge;
 mod examples;
 mod limm;
@@ -12,6 +13,7 @@ mod pair;
 mod tso;
 
 pub use arm::Arm;
+pub use doors::{Door, Opening, Side};
 pub use edge::EdgeKind;
 pub use examples::{
     arm_forbids_store_buffering_with_fences, tso_allows_store_buffering,

@@ -82,6 +82,25 @@ fn arm_keeps_locked_pairs_and_full_fences_first(rt: HostRuntime) -> Result<(), F
     Ok(())
 }
 
+/// The kind of the last door, through the bound.
+fn last_kind<M: OrderModel>() -> Option<EdgeKind> {
+    if M::DOORS == 0 {
+        return None;
+    }
+    Some(M::door(M::DOORS - 1).kind)
+}
+
+#[test]
+fn each_order_has_its_doors(rt: HostRuntime) -> Result<(), Fail> {
+    assert_eq!(rt; last_kind::<Tso>(), Some(EdgeKind::Implied));
+    assert_eq!(rt; last_kind::<Limm>(), Some(EdgeKind::Rmw));
+    assert_eq!(rt; last_kind::<Arm>(), Some(EdgeKind::Rmw));
+    assert!(rt; matches!(Arm::door(0).opening, Opening::Fence(FenceKind::DmbLd)));
+    assert!(rt; matches!(Arm::door(0).from, Side::Reads));
+    assert!(rt; matches!(Tso::door(4).to, Side::Locked));
+    Ok(())
+}
+
 #[test]
 fn the_examples_are_proved() {
     tso_allows_store_buffering();
