@@ -1,1 +1,2 @@
 pub mod BuiltFile
+pub mod Made

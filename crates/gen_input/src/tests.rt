@@ -1,7 +1,7 @@
 ghost use Rattle.std.specs.Prelude.{◌≤◌, length, IfOk};
 ghost use Rattle.gen_input.specs.BuiltFile.{IsShort};
 
-use crate::{Symbol, build};
+use crate::{Symbol, build, make};
 use ev_graph::List;
 use std::alloc::Global;
 use std::test::Fail;
@@ -128,6 +128,54 @@ fn code_of_whole_pages_is_built(rt: HostRuntime) -> Result<(), Fail> {
             let file = build(alloc, &code, &[], 0x800000, &[]).map_err(|_| "not built")?;
             assert_eq!(rt; file.len(), wanted, "at {size}");
         }
+    }
+    Ok(())
+}
+
+#[test]
+fn rounds_are_made(rt: HostRuntime) -> Result<(), Fail> {
+    let alloc = rt.alloc();
+    let one: &[u8] = b"\xBF\x00\x00\x80\x00\x48\x89\x47\x08\xC3\0\0";
+    let four: &[u8] =
+        b"\xBF\x00\x00\x80\x00\x48\x89\x47\x08\x48\x8B\x47\x10\xF0\x48\x0F\xC1\x47\x18\x0F\xAE\xF0\x75\x00\xC3\0\0";
+    for (rounds, wanted) in [(1, one), (4, four)] {
+        let file = make(alloc, rounds).map_err(|_| "not made")?;
+        assert_eq!(rt; file.len(), 16_576);
+        let code = file
+            .get(0x1000..)
+            .and_then(|tail| tail.get(..wanted.len()))
+            .ok_or("short")?;
+        assert_eq!(rt; code, wanted, "of {rounds}");
+    }
+    Ok(())
+}
+
+/// The program headers' sizes and offsets say how long the code is, 0x1731E bytes; the symbols are both at 401000.
+const MOST: [(usize, &[u8]); 6] = [
+    (96, b"\x1E\x73\x01\0\0\0\0\0\x1E\x73\x01\0\0\0\0\0"),
+    (136, b"\0\0\x80\0\0\0\0\0"),
+    (0x1831D, b"\xC3\0"),
+    (
+        0x1A018,
+        b"\x01\0\0\0\x12\0\xF1\xFF\0\x10\x40\0\0\0\0\0\0\0\0\0\0\0\0\0",
+    ),
+    (
+        0x1A030,
+        b"\x0A\0\0\0\x12\0\xF1\xFF\0\x10\x40\0\0\0\0\0\0\0\0\0\0\0\0\0",
+    ),
+    (0x1A048, b"\0thread_0\0thread_1\0\0"),
+];
+
+#[test]
+fn most_rounds_are_made(rt: HostRuntime) -> Result<(), Fail> {
+    let file = make(rt.alloc(), 20_000).map_err(|_| "not made")?;
+    assert_eq!(rt; file.len(), 0x1B0C0);
+    for (place, wanted) in MOST {
+        let found = file
+            .get(place..)
+            .and_then(|tail| tail.get(..wanted.len()))
+            .ok_or("short")?;
+        assert_eq!(rt; found, wanted, "at {place}");
     }
     Ok(())
 }
