@@ -1,0 +1,5 @@
+pub mod Reach
+pub mod Faults
+pub mod Blocks
+pub mod Code
+pub mod Known

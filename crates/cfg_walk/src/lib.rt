@@ -1,0 +1,8 @@
+//! The recovery of control flow: which code of a program its threads reach, its blocks, return sites and functions, or its first fault.
+//! Others rest on `recover`, by its clauses `first` (`Holds`) and `code` (`IsCodeOf`).
+//! Source: Intel SDM volume 2 (CALL, JMP, Jcc, RET, UD2); Aho, Lam, Sethi and Ullman, Compilers, 8.4 (basic blocks, leaders).
+#![tactic(auto)]
+
+mod code;
+
+pub use code::{Block, Code};
