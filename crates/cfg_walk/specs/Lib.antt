@@ -3,3 +3,4 @@ pub mod Faults
 pub mod Blocks
 pub mod Code
 pub mod Known
+pub mod Ways

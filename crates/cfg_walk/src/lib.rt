@@ -4,5 +4,6 @@
 #![tactic(auto)]
 
 mod code;
+mod way;
 
 pub use code::{Block, Code};
