@@ -1,1 +1,4 @@
 pub mod Ways
+pub mod Searches
+pub mod Sorting
+pub mod Scans

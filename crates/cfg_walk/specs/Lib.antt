@@ -4,3 +4,5 @@ pub mod Blocks
 pub mod Code
 pub mod Known
 pub mod Ways
+pub mod Searching
+pub mod Least

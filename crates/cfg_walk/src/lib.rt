@@ -4,6 +4,8 @@
 #![tactic(auto)]
 
 mod code;
+mod check;
+mod find;
 mod way;
 
 pub use code::{Block, Code};

@@ -1,12 +1,17 @@
 -- What a caller of this crate cites.
-use Rattle.std.proofs.Common.{◌≡◌, ◌≤◌, ℕ, zero, suc, List, [], ◌∷◌, inl, inr, Some, None, sum_by, ◌↔◌, ap, sym, subst}
+use Rattle.std.proofs.Common.{◌≡◌, ◌≤◌, ◌<◌, nat_eq, length, take, ℕ, zero, suc, List, [], ◌∷◌, inl, inr, Some, None, sum_by, ◌↔◌, ap, sym, subst}
 use Rattle.std.specs.List.{slice_get}
-use Rattle.ev_graph.specs.Places.{StandsIn}
+use Rattle.ev_graph.specs.Places.{StandsIn, IsDistinct}
 use Rattle.graph_reach.specs.Reach.{From, Reached, IsReachedSet, IsOver, HasPath, IsFirst}
 use Rattle.graph_reach.specs.Reach.Reached.{start, step}
 use Rattle.graph_reach.specs.Backwards.{IsTurned, IsClosed}
 use Rattle.graph_reach.proofs.Searches as searches
 use Rattle.graph_reach.proofs.TurnedEdges as turned
+use Rattle.graph_reach.proofs.Weights as weights
+use Rattle.graph_reach.proofs.Places as places
+use Rattle.graph_reach.proofs.Members as members
+use Rattle.std.specs.List.{IsDistinct as IsDistinctBy}
+use Rattle.graph_reach.specs.Nodes.{Keeps}
 
 -- what is reached has a finite way along edges from a start, and the other way
 pub path : (successors : ℕ → List ℕ) (starts : List ℕ) (a : ℕ) → Reached successors starts a → HasPath successors starts a
@@ -58,3 +63,19 @@ reached_backwards = turned.reached_backwards
 -- the nodes that a search found are such nodes
 pub closed : (successors : ℕ → List ℕ) (starts nodes : List ℕ) → IsReachedSet successors starts nodes → IsClosed successors nodes
 closed successors starts nodes whole a b in_a leads = whole.each b (step (whole.only a in_a) leads)
+
+-- some nodes of a list, each once, weigh no more than the list
+pub sum_within : (weight : ℕ → ℕ) (some nodes : List ℕ) → IsDistinct some → ((a : ℕ) → StandsIn some a → StandsIn nodes a) → sum_by weight some ≤ sum_by weight nodes
+sum_within = weights.sum_within
+
+-- where nodes have only come behind those that were there, an old place has what it had
+pub kept_back : (nodes now : List ℕ) → Keeps nodes now → (i a : ℕ) → i < length nodes → slice_get now i ≡ Some a → slice_get nodes i ≡ Some a
+kept_back = places.kept_back
+
+-- and the front is the same
+pub same_front : (n : ℕ) (nodes now : List ℕ) → Keeps nodes now → n ≤ length nodes → take n now ≡ take n nodes
+same_front = places.same_front
+
+-- numbers that are distinct by their test stand at one place each
+pub distinct_places : (ks : List ℕ) → IsDistinctBy nat_eq ks → IsDistinct ks
+distinct_places = members.distinct_places
