@@ -2,3 +2,4 @@ pub mod Ways
 pub mod Searches
 pub mod Sorting
 pub mod Scans
+pub mod Sets

@@ -3,6 +3,7 @@
 //! Source: Intel SDM volume 2 (CALL, JMP, Jcc, RET, UD2); Aho, Lam, Sethi and Ullman, Compilers, 8.4 (basic blocks, leaders).
 #![tactic(auto)]
 
+mod addresses;
 mod code;
 mod check;
 mod find;
