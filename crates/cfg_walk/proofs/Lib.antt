@@ -3,3 +3,4 @@ pub mod Searches
 pub mod Sorting
 pub mod Scans
 pub mod Sets
+pub mod Gathered

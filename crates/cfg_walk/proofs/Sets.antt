@@ -13,7 +13,7 @@ use Rattle.std.proofs.lemmas.Map.Keys.{IsStrictlyIncreasing-dedup}
 use Rattle.std.proofs.lemmas.Bool.{cases_lt}
 use lib.Dec.{eqb}
 use Rattle.ev_graph.specs.Places.{StandsIn}
-use Rattle.cfg_walk.specs.Code.{IsIncreasing}
+use Rattle.cfg_walk.specs.Code.{AreJust, IsIncreasing}
 
 pub contains : (xs : List ℕ) (a : ℕ) → StandsIn xs a → Contains xs a
 contains xs a at = (at.0, slice_get_within xs at.0 a at.1, get_or_from_slice_get xs at.0 a a at.1)
@@ -22,7 +22,7 @@ pub stands : (xs : List ℕ) (a : ℕ) → Contains xs a → StandsIn xs a
 stands xs a at = (at.0, slice_get-get_or xs at.0 a at.1 ∙ ap (λ (x : ℕ). Some x) at.2)
 
 -- what a sort and a dedup leave are the same numbers
-pub same_numbers : (xs ys zs : List ℕ) → IsPermutation xs ys → IsFiltered (DiffersFromLast eqb) [] ys zs → (a : ℕ) → StandsIn zs a ↔ StandsIn xs a
+same_numbers : (xs ys zs : List ℕ) → IsPermutation xs ys → IsFiltered (DiffersFromLast eqb) [] ys zs → (a : ℕ) → StandsIn zs a ↔ StandsIn xs a
 same_numbers xs ys zs moved filtered a =
     let is = dedup_is eqb ys zs filtered in (
       (λ at. stands xs a (Contains-permutation ys xs a (IsPermutation-sym xs ys moved)
@@ -41,15 +41,19 @@ rises xs steps i (suc j) less within =
       | inr last ↦ (let same : j ≡ i = omega arith in subst (λ k. get_or xs k 0 < get_or xs (suc j) 0) same step)
     ]
 
-pub increasing : (xs : List ℕ) → IsStrictlyIncreasing xs → IsIncreasing xs
+increasing : (xs : List ℕ) → IsStrictlyIncreasing xs → IsIncreasing xs
 increasing xs steps i j a b less one other =
     let less_than = rises xs steps i j less (slice_get_within xs j b other) in
     let first = get_or_from_slice_get xs i a 0 one in
     let second = get_or_from_slice_get xs j b 0 other in
     omega (arith, less_than, first, second)
 
-pub sorted_once : (ys zs : List ℕ) → IsSorted nat_cmp ys → IsFiltered (DiffersFromLast eqb) [] ys zs → IsIncreasing zs
-sorted_once ys zs sorted filtered = increasing zs (subst IsStrictlyIncreasing (sym (dedup_is eqb ys zs filtered)) (IsStrictlyIncreasing-dedup ys sorted))
+-- what a sort and a dedup leave are just the same numbers, in order
+pub set_of : (xs ys zs : List ℕ) → IsPermutation xs ys → IsSorted nat_cmp ys → IsFiltered (DiffersFromLast eqb) [] ys zs → AreJust (StandsIn xs) zs
+set_of xs ys zs moved sorted filtered = record {
+  exact = same_numbers xs ys zs moved filtered;
+  sorted = increasing zs (subst IsStrictlyIncreasing (sym (dedup_is eqb ys zs filtered)) (IsStrictlyIncreasing-dedup ys sorted));
+}
 
 -- numbers in order do not fall
 not_falling : (xs : List ℕ) → IsIncreasing xs → (i j : ℕ) → i ≤ j → j < length xs → get_or xs i 0 ≤ get_or xs j 0
@@ -78,3 +82,10 @@ found xs x r b is result sorted = by_result r b is (searched xs x r result (not_
             | inr past ↦ (let more = gap.2 at.0 past within in omega (arith, more, read))
           ])),
     )
+
+-- the same list, of what holds just as often
+pub just : {P Q : ℕ → Type 0} (xs : List ℕ) → ((a : ℕ) → P a ↔ Q a) → AreJust P xs → AreJust Q xs
+just {P} {Q} xs same are = record {
+  exact = λ a. ((λ at. (same a).0 ((are.exact a).0 at)), (λ holds. (are.exact a).1 ((same a).1 holds)));
+  sorted = are.sorted;
+}

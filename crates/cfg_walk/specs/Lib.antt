@@ -6,3 +6,4 @@ pub mod Known
 pub mod Ways
 pub mod Searching
 pub mod Least
+pub mod Ends

@@ -1,13 +1,12 @@
-ghost use Rattle.std.specs.Prelude.{◌≡◌, ◌↔◌, ℕ, IfOk, IsTrue};
+ghost use Rattle.std.specs.Prelude.{◌↔◌, IfOk, IsTrue};
 ghost use Rattle.ev_graph.specs.Places.{StandsIn};
-ghost use Rattle.cfg_walk.specs.Code.{IsIncreasing};
+ghost use Rattle.cfg_walk.specs.Code.{AreJust, IsIncreasing};
 
 use ev_graph::NoMemory;
 
 /// The same addresses in order, each once.
 pub(crate) fn sorted_set(mut addresses: Vec<u64>) -> Result<Vec<u64>, NoMemory>
-    ensures same { IfOk result (λ v. (a : ℕ) → StandsIn v.items a ↔ StandsIn addresses.items a) }
-    ensures sorted { IfOk result (λ v. IsIncreasing v.items) }
+    ensures { IfOk result (λ v. AreJust (StandsIn addresses.items) v.items) }
 {
     addresses.sort()?;
     addresses.dedup();

@@ -7,6 +7,9 @@ mod addresses;
 mod code;
 mod check;
 mod find;
+mod functions;
+mod leaders;
+mod sites;
 mod way;
 
 pub use code::{Block, Code};
