@@ -4,3 +4,4 @@ pub mod Sorting
 pub mod Scans
 pub mod Sets
 pub mod Gathered
+pub mod Recovered

@@ -1,4 +1,4 @@
-ghost use Rattle.std.specs.Prelude.{◌≡◌, ◌≤◌, ◌<◌, ◌+◌, ◌-◌, map, IsTrue};
+ghost use Rattle.std.specs.Prelude.{◌≡◌, ◌≤◌, ◌<◌, ◌+◌, ◌-◌, length, map, IsTrue};
 ghost use Rattle.elf_read.specs.FirstFault.{Looks};
 ghost use Rattle.code_at.specs.Code.{Program};
 ghost use Rattle.cfg_walk.specs.Code.{AreInstructions, IsIncreasing};
@@ -11,7 +11,8 @@ use x64_syntax::{Instr, Placed};
 
 /// The instructions in the order of their addresses.
 pub(crate) fn in_order(mut placed: Vec<Placed>) -> Vec<Placed>
-    ensures { (program : Program) → AreFound program placed.items → AreInstructions program result.items }
+    ensures are { (program : Program) → AreFound program placed.items → AreInstructions program result.items }
+    ensures len { length result.items ≡ length placed.items }
 {
     placed.sort_unstable_by_key(|p| p.address);
     placed

@@ -4,12 +4,18 @@
 #![tactic(auto)]
 
 mod addresses;
-mod code;
+mod blocks;
 mod check;
+mod code;
 mod find;
 mod functions;
 mod leaders;
+mod recovery;
 mod sites;
 mod way;
 
 pub use code::{Block, Code};
+pub use recovery::recover;
+
+#[cfg(test)]
+mod tests;
