@@ -1,5 +1,5 @@
 -- Addresses that are gathered from each placed instruction.
-use Rattle.std.proofs.Common.{◌≡◌, ◌↔◌, ◌+◌, ◌<◌, ◌≤◌, ◌^◌, ℕ, zero, suc, List, [], ◌∷◌, ◌++◌, length, get_or, All, ◌⊎◌, inl, inr, Some, refl, subst, arith}
+use Rattle.std.proofs.Common.{◌≡◌, ◌↔◌, ℕ, zero, suc, List, [], ◌∷◌, ◌++◌, get_or, ◌⊎◌, inl, inr, Some, refl, subst, arith}
 use Rattle.std.specs.List.{flat_map, slice_get, AllByRecursion}
 use Rattle.std.proofs.lemmas.List.Elements.{Contains-append_left, Contains-append_right, Contains-append_cases}
 use Rattle.std.proofs.lemmas.Option.{slice_get-get_or}
@@ -8,8 +8,7 @@ use Rattle.elf_read.specs.Elf.{IsSegment}
 use Rattle.ev_graph.specs.Places.{StandsIn}
 use Rattle.code_at.specs.Code.{Program}
 use Rattle.code_at.proofs.CallerLemmas.{ends_low}
-use Rattle.cfg_walk.specs.Reach.{IsPlaced, end_of}
-use Rattle.cfg_walk.specs.Blocks.{IsLeader, IsSite, IsCalled, IsFunction}
+use Rattle.cfg_walk.specs.Blocks.{IsLeader, IsSite, IsFunction}
 use Rattle.cfg_walk.specs.Blocks.IsLeader.{at-entry, at-table, at-led}
 use Rattle.cfg_walk.specs.Known.{IsKnown}
 use Rattle.cfg_walk.specs.Ends.{EndLow, led_by, called_by, returned_by}

@@ -5,3 +5,4 @@ pub mod Scans
 pub mod Sets
 pub mod Gathered
 pub mod Recovered
+pub mod BlockLemmas

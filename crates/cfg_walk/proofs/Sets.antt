@@ -1,6 +1,6 @@
 -- Sorted lists of addresses, each once.
-use Rattle.std.proofs.Common.{◌≡◌, ◌↔◌, ◌<◌, ◌≤◌, ◌+◌, ℕ, zero, suc, Bool, true, false, List, [], length, get_or, Some, Result, Ok, Err, IsTrue, arith, refl, sym, ap, subst, ◌∙◌, ◌⊎◌, inl, inr}
-use Rattle.std.specs.List.{slice_get, Contains, dedup}
+use Rattle.std.proofs.Common.{◌≡◌, ◌↔◌, ◌<◌, ◌≤◌, ◌+◌, ℕ, zero, suc, Bool, List, [], length, get_or, Some, Result, Ok, Err, IsTrue, arith, sym, ap, subst, ◌∙◌, inl, inr}
+use Rattle.std.specs.List.{Contains}
 use Rattle.std.specs.List.Sorted.{IsPermutation, IsSorted, IsStrictlyIncreasing, IsBinarySearchResult}
 use Rattle.std.specs.List.Retain.{IsFiltered, DiffersFromLast}
 use Rattle.std.specs.Ordering.{nat_cmp}
@@ -59,7 +59,8 @@ set_of xs ys zs moved sorted filtered = record {
 not_falling : (xs : List ℕ) → IsIncreasing xs → (i j : ℕ) → i ≤ j → j < length xs → get_or xs i 0 ≤ get_or xs j 0
 not_falling xs sorted i j le within = elim (cases_lt i j) [
   | inl before ↦
-      (let less = sorted i j (get_or xs i 0) (get_or xs j 0) before (slice_get-get_or xs i 0 (omega arith)) (slice_get-get_or xs j 0 within) in omega (arith, less))
+      (let less = sorted i j (get_or xs i 0) (get_or xs j 0) before (slice_get-get_or xs i 0 (omega arith)) (slice_get-get_or xs j 0 within)
+      in omega (arith, less))
   | inr last ↦ (let same : j ≡ i = omega arith in subst (λ k. get_or xs i 0 ≤ get_or xs k 0) (sym same) (omega arith))
 ]
 
@@ -69,7 +70,8 @@ pub found : (xs : List ℕ) (x : ℕ) (r : Result ℕ ℕ) (b : Bool) → b ≡ 
 found xs x r b is result sorted = by_result r b is (searched xs x r result (not_falling xs sorted))
   where
     by_result : (r : Result ℕ ℕ) (b : Bool) → b ≡ is_ok r
-        → MatchResult r (λ i. (i < length xs) × (get_or xs i 0 ≡ x)) (λ i. (i ≤ length xs) × ((k : ℕ) → k < i → get_or xs k 0 < x) × ((k : ℕ) → i ≤ k → k < length xs → x < get_or xs k 0))
+        → MatchResult r (λ i. (i < length xs) × (get_or xs i 0 ≡ x)) (λ i. (i ≤ length xs) × ((k : ℕ) → k < i → get_or xs k 0 < x)
+        × ((k : ℕ) → i ≤ k → k < length xs → x < get_or xs k 0))
         → IsTrue b ↔ StandsIn xs x
     by_result (Ok i) b is at =
         ((λ _. (i, slice_get-get_or xs i 0 at.0 ∙ ap (λ (y : ℕ). Some y) at.1)), (λ _. is))

@@ -25,11 +25,7 @@ fn push_each_called(into: &mut Vec<u64>, placed: &[Placed]) -> Result<(), NoMemo
 }
 
 /// The addresses where the functions of a program begin, in order.
-pub(crate) fn functions(
-    alloc: Global,
-    elf: &Elf,
-    placed: &[Placed],
-) -> Result<Vec<u64>, NoMemory>
+pub(crate) fn functions(alloc: Global, elf: &Elf, placed: &[Placed]) -> Result<Vec<u64>, NoMemory>
     requires known { IsKnown (program_of elf.now) placed.now }
     requires low { EndLow placed.now }
     ensures { IfOk result (λ v. AreJust (IsFunction (program_of elf.now)) v.items) }

@@ -25,11 +25,7 @@ fn push_each_led(into: &mut Vec<u64>, placed: &[Placed]) -> Result<(), NoMemory>
 }
 
 /// Where the blocks of a program begin, in order.
-pub(crate) fn leaders(
-    alloc: Global,
-    elf: &Elf,
-    placed: &[Placed],
-) -> Result<Vec<u64>, NoMemory>
+pub(crate) fn leaders(alloc: Global, elf: &Elf, placed: &[Placed]) -> Result<Vec<u64>, NoMemory>
     requires known { IsKnown (program_of elf.now) placed.now }
     requires low { EndLow placed.now }
     ensures { IfOk result (λ v. AreJust (IsLeader (program_of elf.now)) v.items) }

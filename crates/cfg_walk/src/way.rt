@@ -10,7 +10,7 @@ use x64_syntax::{Flow, Instr};
 ///
 /// `Falls` goes on behind the instruction alone. `Stops` is a return, a stop, or goes where no address is told.
 #[derive(Clone, Copy)]
-pub(crate) enum Way {
+enum Way {
     Falls,
     Jumps(u64),
     Branches(u64),

@@ -1,4 +1,4 @@
-use Rattle.std.proofs.Common.{◌≡◌, ◌++◌, List, ℕ, ◌∙◌, ap, subst, sym}
+use Rattle.std.proofs.Common.{◌≡◌, ◌++◌, List, ℕ, ◌∙◌, ap, subst}
 use Rattle.std.specs.List.{flat_map}
 use Rattle.std.proofs.lemmas.Result.{IfOk-weaker}
 use Rattle.ev_graph.specs.Places.{StandsIn}
@@ -15,5 +15,6 @@ returns c =
     let gathered : c.push_each_led.new.into.items ≡ c.args.elf.now.threads ++ flat_map led_by c.args.placed.now =
     c.in_ok-push_each_led.ensures ∙ ap (λ (xs : List ℕ). xs ++ flat_map led_by c.args.placed.now) (c.in_ok-addresses.ensures.items ∙ c.as_slice.ensures) in
     let is = leader_is (program_of c.args.elf.now) c.args.placed.now c.requires.known in
-    IfOk-weaker c.sorted_set.result (λ v. AreJust (StandsIn c.push_each_led.new.into.items) v.items) (λ v. AreJust (IsLeader (program_of c.args.elf.now)) v.items)
+    IfOk-weaker c.sorted_set.result (λ v. AreJust (StandsIn c.push_each_led.new.into.items) v.items)
+    (λ v. AreJust (IsLeader (program_of c.args.elf.now)) v.items)
     (λ v are. just v.items is (subst (λ (xs : List ℕ). AreJust (StandsIn xs) v.items) gathered are)) c.sorted_set.ensures

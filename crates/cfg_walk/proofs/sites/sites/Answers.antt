@@ -1,4 +1,4 @@
-use Rattle.std.proofs.Common.{◌≡◌, ◌++◌, List, ℕ, ◌∙◌, ap, subst, sym}
+use Rattle.std.proofs.Common.{◌≡◌, ◌++◌, List, ℕ, ◌∙◌, ap, subst}
 use Rattle.std.specs.List.{flat_map}
 use Rattle.std.proofs.lemmas.Result.{IfOk-weaker}
 use Rattle.ev_graph.specs.Places.{StandsIn}
@@ -15,5 +15,7 @@ pub returns : goal.returns
 returns c =
     let gathered : c.push_each_site.new.into.items ≡ flat_map returned_by c.args.placed.now =
     c.in_ok-push_each_site.ensures ∙ ap (λ (xs : List ℕ). xs ++ flat_map returned_by c.args.placed.now) c.new-addresses.ensures.items in
-    IfOk-weaker c.sorted_set.result (λ v. AreJust (StandsIn c.push_each_site.new.into.items) v.items) (λ v. (program : Program) → IsKnown program c.args.placed.now → AreJust (IsSite program) v.items)
-    (λ v are program known. just v.items (site_is program c.args.placed.now known) (subst (λ (xs : List ℕ). AreJust (StandsIn xs) v.items) gathered are)) c.sorted_set.ensures
+    IfOk-weaker c.sorted_set.result (λ v. AreJust (StandsIn c.push_each_site.new.into.items) v.items)
+    (λ v. (program : Program) → IsKnown program c.args.placed.now → AreJust (IsSite program) v.items)
+    (λ v are program known. just v.items (site_is program c.args.placed.now known)
+    (subst (λ (xs : List ℕ). AreJust (StandsIn xs) v.items) gathered are)) c.sorted_set.ensures
