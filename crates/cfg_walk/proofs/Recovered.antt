@@ -1,13 +1,10 @@
 -- From the instructions that were found to the code of the program.
-use Rattle.std.proofs.Common.{◌≡◌, ◌<◌, ◌≤◌, ◌+◌, ◌^◌, ℕ, List, Some, length, get_or, arith, sym, subst}
-use Rattle.std.specs.List.{slice_get}
+use Rattle.std.proofs.Common.{List, get_or, arith}
 use Rattle.std.specs.List.{AllByRecursion}
 use Rattle.std.proofs.lemmas.Option.{slice_get-get_or}
-use Rattle.ev_graph.specs.Places.{StandsIn}
 use Rattle.x64_syntax.specs.declared.placed.Placed.{Placed}
-use Rattle.elf_read.specs.declared.fault.FileFault.{FileFault}
 use Rattle.elf_read.specs.declared.fault.FileFault.TheVariants.{Overlap}
-use Rattle.elf_read.specs.FirstFault.{Clear, rank}
+use Rattle.elf_read.specs.FirstFault.{Clear}
 use Rattle.elf_read.specs.Elf.{IsSegment}
 use Rattle.code_at.specs.Code.{Program}
 use Rattle.code_at.proofs.CallerLemmas.{ends_low}

@@ -1,16 +1,15 @@
 -- The least instruction that is not translated so far, and the least one that begins inside another.
-use Rattle.std.proofs.Common.{◌≡◌, ◌<◌, ◌≤◌, ◌+◌, ◌-◌, ℕ, zero, suc, Bool, true, false, List, [], ◌∷◌, length, get_or, Some, None, map, refl, sym, ap, ◌∙◌, subst, arith, ◌⊎◌, inl, inr, Ok, Err}
+use Rattle.std.proofs.Common.{◌≡◌, ◌<◌, ◌≤◌, ◌+◌, ◌-◌, ℕ, zero, suc, true, false, List, [], ◌∷◌, length, get_or, Some, None, map, refl, sym, ap, ◌∙◌, subst, arith, ◌⊎◌, inl, inr}
 use Rattle.std.specs.List.{slice_get}
 use Rattle.std.proofs.lemmas.Option.{slice_get_within, slice_get-get_or}
 use Rattle.std.proofs.lemmas.Bool.{cases_lt}
-use Rattle.ev_graph.specs.Places.{StandsIn}
 use Rattle.x64_syntax.specs.declared.placed.Placed.{Placed}
 use Rattle.elf_read.specs.declared.fault.FileFault.{FileFault}
 use Rattle.elf_read.specs.declared.fault.FileFault.TheVariants.{TooMuchCode, BadCode, UnbuiltCode, Overlap}
-use Rattle.elf_read.specs.FirstFault.{Clear, IsFirst, Before, rank, place}
+use Rattle.elf_read.specs.FirstFault.{Clear, IsFirst, Before, rank}
 use Rattle.code_at.specs.Code.{Program}
 use Rattle.cfg_walk.specs.Code.{AreInstructions, IsIncreasing}
-use Rattle.cfg_walk.specs.Reach.{IsPlaced, end_of}
+use Rattle.cfg_walk.specs.Reach.{end_of}
 use Rattle.cfg_walk.specs.Faults.{Holds, IsUnbuilt, IsOverlapping, is_unbuilt}
 use Rattle.cfg_walk.specs.Searching.{address_of}
 use Rattle.cfg_walk.specs.Least.{IsLeast}
@@ -203,7 +202,7 @@ module _ (placed : List Placed) (k : ℕ) (some : 0 < k) (within : k < length pl
   pub neighbours_rise : (d e : Placed) → (get_or placed (k - 1) d).address ≤ (get_or placed k e).address
   neighbours_rise d e =
       let less = sorted (k - 1) k (get_or placed (k - 1) d).address (get_or placed k e).address (omega (arith, some)) (map_get placed (k - 1) (get_or placed (k - 1) d) (before d))
-          (map_get placed k (get_or placed k e) (here e)) in
+      (map_get placed k (get_or placed k e) (here e)) in
       omega (arith, less)
 
   pub neighbours_overlap : (d e : Placed) (n : ℕ) → (get_or placed k e).address - (get_or placed (k - 1) d).address < n → n ≡ (get_or placed (k - 1) d).length → ApartUpTo placed k

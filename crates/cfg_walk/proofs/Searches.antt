@@ -1,5 +1,5 @@
 -- The search for reached code: how it begins, goes on and ends.
-use Rattle.std.proofs.Common.{◌≡◌, ◌≢◌, ◌<◌, ◌≤◌, ◌+◌, ◌-◌, ℕ, suc, Bool, true, false, List, [], ◌∷◌, ◌++◌, length, ◌⊎◌, inl, inr, Option, Some, None, IfSome, IsSomeAnd, map, ap, sym, ◌∙◌, refl, subst, take, sum_by, arith, append_assoc, length-append, get_or}
+use Rattle.std.proofs.Common.{◌≡◌, ◌<◌, ◌≤◌, ◌+◌, ℕ, Bool, true, false, List, [], ◌∷◌, ◌++◌, length, ◌⊎◌, inl, inr, Option, Some, None, IfSome, IsSomeAnd, map, ap, sym, ◌∙◌, refl, subst, take, sum_by, arith, get_or}
 use Rattle.std.specs.Prelude.{nat_le, if◌then◌else◌}
 use Rattle.std.specs.List.{slice_get}
 use Rattle.std.proofs.lemmas.Option.{slice_get_within}
@@ -7,7 +7,6 @@ use Rattle.std.proofs.lemmas.Bool.{cases_lt}
 use Rattle.std.proofs.lemmas.Bool.Decides.{nat_tests}
 use Rattle.ev_graph.specs.Places.{StandsIn, IsDistinct}
 use Rattle.x64_syntax.specs.declared.placed.Placed.{Placed}
-use Rattle.elf_read.specs.declared.fault.BadCodeKind.{BadCodeKind}
 use Rattle.elf_read.specs.declared.fault.CodeFault.{CodeFault}
 use Rattle.elf_read.specs.declared.fault.FileFault.{FileFault}
 use Rattle.elf_read.specs.declared.fault.FileFault.TheVariants.{TooMuchCode, BadCode}

@@ -1,10 +1,9 @@
 -- Instructions in the order of their addresses.
-use Rattle.std.proofs.Common.{◌≡◌, ◌≢◌, ◌<◌, ◌≤◌, ℕ, zero, suc, Bool, true, false, List, [], ◌∷◌, length, get_or, nat_eq, Some, map, refl, sym, ap, ◌∙◌, subst, arith, ◌⊎◌, inl, inr}
+use Rattle.std.proofs.Common.{◌≡◌, ◌<◌, ◌≤◌, ℕ, zero, suc, false, List, [], ◌∷◌, get_or, nat_eq, Some, map, refl, ap, ◌∙◌, arith}
 use Rattle.std.specs.List.{slice_get, Contains, AllByRecursion}
 use Rattle.std.specs.List.{IsDistinct as IsDistinctBy}
 use Rattle.std.specs.List.Sorted.{IsPermutation, IsNonDecreasingBy}
 use Rattle.std.proofs.lemmas.Option.{slice_get_within, slice_get-get_or, get_or_from_slice_get}
-use Rattle.std.proofs.lemmas.List.{length-map}
 use Rattle.std.proofs.lemmas.List.Sorted.{IsPermutation-sym, IsPermutation-map, Contains-permutation}
 use Rattle.std.proofs.lemmas.Map.Keys.{IsDistinct-IsPermutation}
 use Rattle.std.proofs.lemmas.Bool.Decides.{nat_tests}
@@ -13,7 +12,6 @@ use Rattle.graph_reach.proofs.CallerLemmas.{distinct_places}
 use Rattle.x64_syntax.specs.declared.placed.Placed.{Placed}
 use Rattle.code_at.specs.Code.{Program}
 use Rattle.cfg_walk.specs.Code.{AreInstructions, IsIncreasing}
-use Rattle.cfg_walk.specs.Reach.{IsPlaced}
 use Rattle.cfg_walk.specs.Searching.{AreFound, address_of}
 
 contains : {A : Type 0} (xs : List A) (x : A) → StandsIn xs x → Contains xs x

@@ -2,7 +2,6 @@
 use Rattle.std.specs.Prelude.{◌≡◌, ◌<◌, ◌↔◌, ℕ, List, map, slice_get, Some}
 use Rattle.ev_graph.specs.Places.{StandsIn}
 use Rattle.x64_syntax.specs.declared.placed.Placed.{Placed}
-use Rattle.elf_read.specs.declared.fault.FileFault.{FileFault}
 use Rattle.elf_read.specs.declared.fault.FileFault.TheVariants.{TooMuchCode, UndefinedFlag}
 use Rattle.elf_read.specs.FirstFault.{Clear, rank}
 use Rattle.code_at.specs.Code.{Program}

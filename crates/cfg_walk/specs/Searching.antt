@@ -1,5 +1,5 @@
 -- What the search for reached code keeps true, and what it finds.
-use Rattle.std.specs.Prelude.{◌≡◌, ◌≤◌, ◌<◌, ◌⊎◌, ◌↔◌, ◌++◌, ℕ, ◌+◌, List, [], ◌∷◌, map, take, length, slice_get, Option, Some, None, IfSome, IsSomeAnd, nat_le, if◌then◌else◌}
+use Rattle.std.specs.Prelude.{◌≡◌, ◌≤◌, ◌<◌, ◌⊎◌, ◌↔◌, ℕ, ◌+◌, List, map, take, length, slice_get, Option, Some, None, IfSome, IsSomeAnd, nat_le, if◌then◌else◌}
 use Rattle.ev_graph.specs.Places.{StandsIn, IsDistinct}
 use Rattle.x64_syntax.specs.declared.placed.Placed.{Placed}
 use Rattle.elf_read.specs.declared.fault.BadCodeKind.{BadCodeKind}

@@ -94,7 +94,12 @@ fn faults_come_by_rank_and_address(rt: HostRuntime) -> Result<(), Fail> {
 
 #[test]
 fn a_call_makes_blocks_a_site_and_a_function(rt: HostRuntime) -> Result<(), Fail> {
-    let code = code_of(rt.alloc(), b"\x53\xE8\x02\0\0\0\x5B\xC3\xC3", NOWHERE, NOWHERE)?;
+    let code = code_of(
+        rt.alloc(),
+        b"\x53\xE8\x02\0\0\0\x5B\xC3\xC3",
+        NOWHERE,
+        NOWHERE,
+    )?;
     assert_eq!(rt; code.placed.as_slice().len(), 5);
     let mut blocks = Vec::new(rt.alloc());
     for block in code.blocks.as_slice() {

@@ -1,4 +1,4 @@
-use Rattle.std.proofs.Common.{◌<◌, length, arith}
+use Rattle.std.proofs.Common.{arith}
 use Rattle.cfg_walk.proofs.Scans.{neighbours_rise, neighbours_overlap, neighbours_apart, none_overlap}
 use Rattle.cfg_walk.proofs.check.first_overlap.Goals as goal
 

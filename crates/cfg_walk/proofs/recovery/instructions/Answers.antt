@@ -1,6 +1,5 @@
-use Rattle.std.proofs.Common.{◌≡◌, ◌∙◌, List, map, arith, sym, subst}
+use Rattle.std.proofs.Common.{List, map, arith, sym, subst}
 use Rattle.x64_syntax.specs.declared.placed.Placed.{Placed}
-use Rattle.elf_read.specs.FirstFault.{Clear, IsFirst}
 use Rattle.elf_read.proofs.CallerLemmas.{clear_join, first_behind}
 use Rattle.code_at.specs.Code.{program_of}
 use Rattle.cfg_walk.specs.Code.{AreInstructions, IsIncreasing}

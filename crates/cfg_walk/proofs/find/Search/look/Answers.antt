@@ -1,4 +1,4 @@
-use Rattle.std.proofs.Common.{◌≡◌, ◌+◌, ◌≤◌, ◌^◌, arith}
+use Rattle.std.proofs.Common.{arith}
 use Rattle.code_at.specs.Code.{program_of}
 use Rattle.code_at.proofs.CallerLemmas.{ends_low}
 use Rattle.cfg_walk.proofs.find.Search.look.Goals as goal
