@@ -6,3 +6,4 @@ pub mod Sets
 pub mod Gathered
 pub mod Recovered
 pub mod BlockLemmas
+pub mod Found

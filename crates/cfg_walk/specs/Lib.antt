@@ -7,3 +7,4 @@ pub mod Ways
 pub mod Searching
 pub mod Least
 pub mod Ends
+pub mod Machine

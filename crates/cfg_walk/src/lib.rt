@@ -9,12 +9,14 @@ mod check;
 mod code;
 mod find;
 mod functions;
+mod laws;
 mod leaders;
 mod recovery;
 mod sites;
 mod way;
 
 pub use code::{Block, Code};
+pub use laws::threads_find_code;
 pub use recovery::recover;
 
 #[cfg(test)]
