@@ -7,3 +7,4 @@ pub mod Gathered
 pub mod Recovered
 pub mod BlockLemmas
 pub mod Found
+pub mod CallerLemmas

@@ -4,7 +4,7 @@ use Rattle.ev_graph.specs.Places.{StandsIn}
 use Rattle.x64_syntax.specs.declared.placed.Placed.{Placed}
 use Rattle.elf_read.specs.declared.fault.FileFault.TheVariants.{TooMuchCode, UndefinedFlag}
 use Rattle.elf_read.specs.FirstFault.{Clear, rank}
-use Rattle.code_at.specs.Code.{Program}
+use Rattle.code_at.specs.Code.{Program, program_in}
 use Rattle.cfg_walk.specs.declared.code.Block.{Block}
 use Rattle.cfg_walk.specs.declared.code.Code.{Code}
 use Rattle.cfg_walk.specs.Reach.{IsPlaced}
@@ -37,3 +37,7 @@ pub record IsCodeOf (program : Program) (code : Code) : Type 0 where
   pub blocks : AreBlocks program code.blocks
   pub sites : AreJust (IsSite program) code.sites
   pub functions : AreJust (IsFunction program) code.functions
+
+-- this is the code of the program that a file's bytes say
+abbrev pub IsFileCode : List ℕ → Code → Type 0
+IsFileCode bytes code = IsCodeOf (program_in bytes) code

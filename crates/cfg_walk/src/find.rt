@@ -75,7 +75,8 @@ impl Search {
     fn look(&mut self, elf: &Elf, place: usize, buffer: &mut Vec<u64>) -> Result<(), NoMemory>
         requires program { IsProgram (parts_of elf.now) elf.now.threads }
         requires within { place < length self.old.nodes }
-        ensures { OnOk result (Tells (program_of elf.now) self.old.nodes place self.old.placed.items self.old.bad self.new.nodes self.new.placed.items self.new.bad) }
+        ensures { OnOk result (Tells (program_of elf.now) self.old.nodes place self.old.placed.items self.old.bad
+            self.new.nodes self.new.placed.items self.new.bad) }
     {
         let address = self.nodes.at(place);
         match instruction_at(elf, address) {

@@ -18,6 +18,7 @@ mod way;
 pub use code::{Block, Code};
 pub use laws::threads_find_code;
 pub use recovery::recover;
+pub use x64_syntax::{Flow, Placed};
 
 #[cfg(test)]
 mod tests;

@@ -59,3 +59,10 @@ no_truth e = absurd cc
 pub unbuilt_stands : (code : Code) (address before : ℕ) (p q : Placed) → StandsAt code.parts address p → is_built p.instr ≡ false → StandsAt code.parts address q → MayStand code before q → ⊥
 unbuilt_stands code address before p q one unbuilt other may =
     no_truth (sym may.built ∙ ap (λ (r : Placed). is_built r.instr) (stands_once code.parts address q p other one) ∙ unbuilt)
+
+-- no instruction stands where there is no code
+pub no_code : (parts : List Part) (address : ℕ) → code_from parts address ≡ [] → (p : Placed) → StandsAt parts address p → ⊥
+no_code parts address none p stands =
+    let some = stands_some parts address p stands in
+    let empty : length (code_from parts address) ≡ 0 = ap length none in
+    omega (arith, some, empty, stands.within)

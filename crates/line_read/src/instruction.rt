@@ -17,7 +17,9 @@ fn instruction_at(elf: &Elf, address: u64) -> Option<Placed>
     ensures some { IfSome result (λ p. StandsAt (parts_of elf.now) address p) }
     ensures none { IfNone result ((p : Placed) → StandsAt (parts_of elf.now) address p → ⊥) }
 {
-    let window = window_at(elf, address)?;
+    let Some(window) = window_at(elf, address) else {
+        return None;
+    };
     match decode_one(window.as_slice()) {
         Ok((instr, length)) => Some(Placed {
             address,
