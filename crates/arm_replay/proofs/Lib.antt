@@ -1,0 +1,10 @@
+pub mod Advances
+pub mod EndLemmas
+pub mod LayoutLemmas
+pub mod MadeLemmas
+pub mod MemoryLemmas
+pub mod RelationLemmas
+pub mod RowShapes
+pub mod RunLemmas
+pub mod StepLemmas
+pub mod ValueLemmas
