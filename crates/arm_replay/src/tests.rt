@@ -130,10 +130,10 @@ const DIVIDE: &[u32; 1] = &[0xD420_0020];
 /// A read where no memory is.
 const OUTSIDE: &[u32; 3] = &[0xD290_0007, 0xF2A0_0807, 0xF940_00E0];
 
-/// An image with these words, threads that begin at these places among them, and eight cells at 404000.
-fn image(alloc: Global, words: &[u32], places: &[u64]) -> Result<Image, AllocError>
-    requires some { 0 < length places.now }
-    requires few { length places.now ≤ 16 }
+/// An image with these words, threads that begin at these addresses, and eight cells at 404000.
+fn image(alloc: Global, words: &[u32], threads: &[u64]) -> Result<Image, AllocError>
+    requires some { 0 < length threads.now }
+    requires few { length threads.now ≤ 16 }
     ensures { IfOk result IsImage }
 {
     let cells = ImageSegment {
@@ -144,15 +144,11 @@ fn image(alloc: Global, words: &[u32], places: &[u64]) -> Result<Image, AllocErr
     };
     let segments = Vec::from_array(alloc, [cells])?;
     let code_address = code_address(segments.as_slice());
-    let threads = places
-        .iter()
-        .map(|place| CODE.wrapping_add(place.wrapping_mul(4)))
-        .collect(alloc)?;
     Ok(Image {
         segments: List::of(segments),
         code_address,
         words: List::of(Vec::from_slice(alloc, words)?),
-        threads: List::of(threads),
+        threads: List::of(Vec::from_slice(alloc, threads)?),
     })
 }
 
@@ -160,13 +156,13 @@ fn image(alloc: Global, words: &[u32], places: &[u64]) -> Result<Image, AllocErr
 fn replayed(
     alloc: Global,
     words: &[u32],
-    places: &[u64],
+    threads: &[u64],
     text: &str,
 ) -> Result<Result<Execution, ReplayFault>, Fail> {
-    if places.is_empty() || places.len() > 16 || text.len() > 100_000 {
+    if threads.is_empty() || threads.len() > 16 || text.len() > 100_000 {
         return Err(Fail::from("too much"));
     }
-    let image = image(alloc, words, places)?;
+    let image = image(alloc, words, threads)?;
     let file = read_exec(alloc, text.as_bytes())?;
     Ok(replay(alloc, &image, &file))
 }
@@ -190,7 +186,7 @@ fn has_fault(
         item,
         kind,
     };
-    match replayed(alloc, words, &[0], text.as_str())? {
+    match replayed(alloc, words, &[CODE], text.as_str())? {
         Ok(_) => Ok(false),
         Err(fault) => Ok(fault == ReplayFault::Run(place)),
     }
@@ -199,7 +195,7 @@ fn has_fault(
 /// Whether a thread of these words is replayed on the rest of a text.
 fn is_replayed(alloc: Global, words: &[u32], rest: &str) -> Result<bool, Fail> {
     let text = one(alloc, rest)?;
-    Ok(replayed(alloc, words, &[0], text.as_str())?.is_ok())
+    Ok(replayed(alloc, words, &[CODE], text.as_str())?.is_ok())
 }
 
 /// The text of store buffering.
@@ -208,7 +204,7 @@ const BUFFERED: &str =
 
 #[test]
 fn store_buffering_is_replayed(rt: HostRuntime) -> Result<(), Fail> {
-    let x = replayed(rt.alloc(), STORE_BUFFERING, &[0, 12], BUFFERED)??;
+    let x = replayed(rt.alloc(), STORE_BUFFERING, &[CODE, CODE + 48], BUFFERED)??;
     assert_eq!(rt; x.stacks.as_slice().len(), 2);
     assert_eq!(rt; x.co.as_slice().len(), 2);
     assert_eq!(rt; x.rmw.as_slice().len(), 0);
@@ -269,13 +265,13 @@ fn layouts_are_judged(rt: HostRuntime) -> Result<(), Fail> {
         let text = format!(in alloc;
             "lasagne-exec 1\nstack 0 {first}\nstack 1 {second}\nthread 0 0 running\nthread 1 0 running\nco\nend\n"
         )?;
-        match replayed(alloc, STORE_BUFFERING, &[0, 12], text.as_str())? {
+        match replayed(alloc, STORE_BUFFERING, &[CODE, CODE + 48], text.as_str())? {
             Ok(_) => assert_eq!(rt; fault, 2, "{first} {second}"),
             Err(found) => assert_eq!(rt; found, ReplayFault::Layout(fault), "{first} {second}"),
         }
     }
     let text = one(alloc, "0 running\nco\n")?;
-    match replayed(alloc, STORE_BUFFERING, &[0, 12], text.as_str())? {
+    match replayed(alloc, STORE_BUFFERING, &[CODE, CODE + 48], text.as_str())? {
         Ok(_) => return Err(Fail::from("one stack for two threads")),
         Err(found) => assert_eq!(rt; found, ReplayFault::LayoutThreads),
     }
@@ -377,22 +373,25 @@ fn faults_are_told(rt: HostRuntime) -> Result<(), Fail> {
             2,
             ReplayKind::More,
         ),
-        (
-            SILENT_LOOP.as_slice(),
-            "1 running\nr 0 init\nco\n",
-            0,
-            ReplayKind::Steps,
-        ),
-        (
-            SILENT_LOOP.as_slice(),
-            "0 halted\nco\n",
-            0,
-            ReplayKind::Steps,
-        ),
-        (LONGER.as_slice(), "0 halted\nco\n", 0, ReplayKind::Steps),
     ] {
         assert!(rt; has_fault(alloc, words, rest, item, kind)?, "{rest}");
     }
+    Ok(())
+}
+
+#[test]
+fn a_silent_loop_has_too_many_steps(rt: HostRuntime) -> Result<(), Fail> {
+    let alloc = rt.alloc();
+    let rest = "1 running\nr 0 init\nco\n";
+    assert!(rt; has_fault(alloc, SILENT_LOOP, rest, 0, ReplayKind::Steps)?);
+    Ok(())
+}
+
+#[test]
+fn one_step_more_is_too_many(rt: HostRuntime) -> Result<(), Fail> {
+    let alloc = rt.alloc();
+    let rest = "0 halted\nco\n";
+    assert!(rt; has_fault(alloc, LONGER, rest, 0, ReplayKind::Steps)?);
     Ok(())
 }
 
@@ -427,7 +426,7 @@ fn threads_are_cut_and_end(rt: HostRuntime) -> Result<(), Fail> {
 fn locked_pairs_and_fences_are_kept(rt: HostRuntime) -> Result<(), Fail> {
     let alloc = rt.alloc();
     let text = one(alloc, "3 halted\nr 0 init\nr 0 init\nco 0.1\n")?;
-    let x = replayed(alloc, EXCHANGE, &[0], text.as_str())??;
+    let x = replayed(alloc, EXCHANGE, &[CODE], text.as_str())??;
     let [pair] = x.rmw.as_slice() else {
         return Err(Fail::from("one pair"));
     };
@@ -437,7 +436,7 @@ fn locked_pairs_and_fences_are_kept(rt: HostRuntime) -> Result<(), Fail> {
     };
     assert_eq!(rt; thread.items.as_slice().len(), 4);
     let text = one(alloc, "2 running\nr 0 init\nco 0.1\n")?;
-    let x = replayed(alloc, EXCHANGE, &[0], text.as_str())??;
+    let x = replayed(alloc, EXCHANGE, &[CODE], text.as_str())??;
     let [thread] = x.threads.as_slice() else {
         return Err(Fail::from("one thread"));
     };
