@@ -44,3 +44,11 @@ limm_kinds = edge.Rmw ∷ edge.Frm ∷ edge.Fww ∷ edge.Fsc ∷ []
 -- the kinds of Armv8, as the enum lists them
 abbrev pub arm_kinds : List EdgeKind
 arm_kinds = edge.Rmw ∷ edge.Dmb ∷ edge.Ld ∷ edge.St ∷ []
+
+-- no pair has the kind of one that is ordered by rf, fr or co
+pub record HasOwnKinds (order : Order) : Type 0 where
+  pub no_co : (items : List Item) (m n : ℕ) → order edge.Co items m n → ⊥
+  pub no_fr : (items : List Item) (m n : ℕ) → order edge.Fr items m n → ⊥
+  pub no_rfe : (items : List Item) (m n : ℕ) → order edge.Rfe items m n → ⊥
+  pub no_fre : (items : List Item) (m n : ℕ) → order edge.Fre items m n → ⊥
+  pub no_coe : (items : List Item) (m n : ℕ) → order edge.Coe items m n → ⊥

@@ -15,7 +15,7 @@ impl OrderModel for Arm {
     ghost use Rattle.std.specs.Prelude.{false};
     ghost use Rattle.std.specs.Prelude.{refl};
     ghost use Rattle.std.proofs.Common.{lit≤};
-    ghost use Rattle.order_models.specs.OwnKinds.{all_arm_kinds};
+    ghost use Rattle.order_models.specs.OwnKinds.{all_arm_kinds, own_arm_kinds};
     ghost use Rattle.order_models.specs.OwnDoors.{are_arm_doors};
 
     ghost order = { arm_order };
@@ -66,6 +66,8 @@ impl OrderModel for Arm {
     }
 
     ghost all_kinds = { all_arm_kinds };
+
+    ghost own_kinds = { own_arm_kinds };
 
     ghost law_of_doors = { are_arm_doors };
 

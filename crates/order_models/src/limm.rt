@@ -15,7 +15,7 @@ impl OrderModel for Limm {
     ghost use Rattle.std.specs.Prelude.{false};
     ghost use Rattle.std.specs.Prelude.{refl};
     ghost use Rattle.std.proofs.Common.{lit≤};
-    ghost use Rattle.order_models.specs.OwnKinds.{all_limm_kinds};
+    ghost use Rattle.order_models.specs.OwnKinds.{all_limm_kinds, own_limm_kinds};
     ghost use Rattle.order_models.specs.OwnDoors.{are_limm_doors};
 
     ghost order = { limm_order };
@@ -66,6 +66,8 @@ impl OrderModel for Limm {
     }
 
     ghost all_kinds = { all_limm_kinds };
+
+    ghost own_kinds = { own_limm_kinds };
 
     ghost law_of_doors = { are_limm_doors };
 

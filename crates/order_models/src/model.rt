@@ -1,6 +1,7 @@
 ghost use Rattle.std.specs.Prelude.{◌≡◌, ◌<◌, ◌≤◌, ◌↔◌, ℕ, Bool, Some, IsSome, length, slice_get};
 ghost use Rattle.order_models.specs.Local.{IsFirstLocal};
 ghost use Rattle.order_models.specs.Doors.{AreAdmitted, AreDoorsOf};
+ghost use Rattle.order_models.specs.Orders.{HasOwnKinds};
 
 use crate::{Door, EdgeKind};
 use ev_graph::{Item, List};
@@ -49,6 +50,9 @@ pub trait OrderModel {
 
     // the order has no kinds but its own
     ghost all_kinds: { (kind : EdgeKind) (items : Sequence Item) (m n : ℕ) → order kind items m n → StandsIn kinds kind };
+
+    // its kinds are none of those of rf, fr and co
+    ghost own_kinds: { HasOwnKinds order };
 
     // the order keeps what its doors admit
     ghost law_of_doors: { AreDoorsOf order doors };

@@ -15,7 +15,7 @@ impl OrderModel for Tso {
     ghost use Rattle.std.specs.Prelude.{true};
     ghost use Rattle.std.specs.Prelude.{refl};
     ghost use Rattle.std.proofs.Common.{lit≤};
-    ghost use Rattle.order_models.specs.OwnKinds.{all_tso_kinds};
+    ghost use Rattle.order_models.specs.OwnKinds.{all_tso_kinds, own_tso_kinds};
     ghost use Rattle.order_models.specs.OwnDoors.{are_tso_doors};
 
     ghost order = { tso_order };
@@ -72,6 +72,8 @@ impl OrderModel for Tso {
     }
 
     ghost all_kinds = { all_tso_kinds };
+
+    ghost own_kinds = { own_tso_kinds };
 
     ghost law_of_doors = { are_tso_doors };
 
