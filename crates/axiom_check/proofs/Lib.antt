@@ -1,0 +1,11 @@
+pub mod GainsLemmas
+pub mod LanesLemmas
+pub mod Graphs
+pub mod NumberLemmas
+pub mod BytesLemmas
+pub mod GatesLemmas
+pub mod Judged
+pub mod BytePairs
+pub mod SlotForms
+pub mod ExternalPairs
+pub mod PairsBack

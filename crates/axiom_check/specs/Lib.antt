@@ -1,0 +1,6 @@
+pub mod Gains
+pub mod Lanes
+pub mod Numbers
+pub mod Bytes
+pub mod Gates
+pub mod External
