@@ -14,5 +14,5 @@ returns-in-Err-clause-none c =
     refused_stands (parts_of c.args.elf.now) c.args.address c.as_slice.result.now c.in-Err.field-0 (c.as_slice.ensures ∙ c.in-Some.ensures.shown)
     (subst (λ r. Answers (take 15 c.as_slice.result.now) r) c.in-Err.is c.decode_one.ensures.exact)
 
-pub returns-in-None-clause-none : goal.returns-in-None-clause-none
-returns-in-None-clause-none c = no_code (parts_of c.args.elf.now) c.args.address c.in-None.ensures.none
+pub returns-in_default-clause-none : goal.returns-in_default-clause-none
+returns-in_default-clause-none c = no_code (parts_of c.args.elf.now) c.args.address c.in_default.ensures.none
