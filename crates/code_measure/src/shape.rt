@@ -46,7 +46,7 @@ fn jumps(alloc: Global) -> Result<Vec<u8>, AllocError>
     ensures { IfOk result (λ code. vec_len code ≤ 2 ^ 20) }
 {
     let mut code = Vec::new(alloc);
-    for _ in 0..65_535 {
+    for _ in 0..65_535_u32 {
         code.extend_from_slice(&[0xEB, 0])?;
     }
     code.push(0xC3)?;
