@@ -7,18 +7,11 @@ use Rattle.ev_graph.specs.declared.events.End.{End}
 use Rattle.ev_graph.specs.declared.events.End.TheVariants.{Running}
 use Rattle.behavior.specs.Tree.{Tree, Gives, Begins, Acts, Point, Cut, At, Path, begins, Next, Goes, Stops}
 use Rattle.behavior.specs.Run.{Run, cuts, stops, goes_on}
+pub use Rattle.behavior.specs.Unfolds.{Unfolds, block-ends, block-goes, block-begins, block-acts}
 use Rattle.behavior.specs.Seen.{trace}
 use Rattle.behavior.specs.Kept.{Backward, Forward, SamePoint, both-cut, both-at, SameNext, both-go, both-stop, Keeps}
 use Rattle.behavior.proofs.SeenLemmas.{SeesByParts, sees-trace}
 use Rattle.behavior.proofs.Walks.{Walk, ends-cut, walks-on, walks-begin, walks-act, From, from-cut, from-stop, from-go, run_walk, walk_run, from_walk, walk_from}
-
--- The block goes on where the step comes to a next state, by whole steps from there, and ends where it likes.
-pub data Unfolds {S : Type 0} (step : S → Tree (Next S)) : Tree (Next S) → Tree (Next S) → Type 0 where
-  block-ends : {next : Next S} → Unfolds step (Gives next) (Gives next)
-  block-goes : {s : S} {block : Tree (Next S)} → Unfolds step (step s) block → Unfolds step (Gives (Goes s)) block
-  block-begins : {t block : Tree (Next S)} → Unfolds step t block → Unfolds step (Begins t) (Begins block)
-  block-acts : {range : ℕ} {made : ℕ → List Item} {next blocks : ℕ → Tree (Next S)}
-      → ((v : ℕ) → v < range → Unfolds step (next v) (blocks v)) → Unfolds step (Acts range made next) (Acts range made blocks)
 
 -- each way on from a tree to a next state begins an instruction
 abbrev pub Advances : {S : Type 0} → Tree (Next S) → Type 0

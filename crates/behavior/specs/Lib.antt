@@ -6,5 +6,7 @@ pub mod Acts
 pub mod Kept
 pub mod Explained
 pub mod Leaving
+pub mod Exits
+pub mod Unfolds
 pub mod Rest
 pub mod Passed

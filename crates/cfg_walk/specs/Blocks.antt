@@ -1,5 +1,6 @@
 -- Where blocks begin and end, and which addresses are return sites and functions.
-use Rattle.std.specs.Prelude.{◌≡◌, ◌⊎◌, ℕ, suc, Bool, true, false, List, [], ◌∷◌}
+use Rattle.std.specs.Prelude.{◌≡◌, ◌⊎◌, ℕ, suc, Bool, true, false, List, [], ◌∷◌, length}
+use Rattle.std.specs.List.{AllByRecursion}
 use Rattle.ev_graph.specs.Places.{StandsIn}
 use Rattle.x64_syntax.specs.declared.instr.Instr.{Instr}
 use Rattle.x64_syntax.specs.declared.instr.Instr.TheVariants as instr
@@ -62,6 +63,24 @@ pub data IsStretch (program : Program) : (first count : ℕ) → Type 0 where
 pub record IsBlock (program : Program) (block : Block) : Type 0 where
   pub leader : IsLeader program block.first
   pub stretch : IsStretch program block.first block.count
+
+-- instructions of which the first begins at the address
+abbrev pub BeginAt : ℕ → List Placed → Type 0
+BeginAt a [] = ⊥
+BeginAt a (p ∷ ps) = p.address ≡ a
+
+-- each instruction begins where the one before it ends
+abbrev pub Follow : List Placed → Type 0
+Follow [] = Unit {0}
+Follow (p ∷ []) = Unit {0}
+Follow (p ∷ q ∷ ps) = (q.address ≡ end_of p) × Follow (q ∷ ps)
+
+-- these are the instructions of a block: as many of those that are placed, one behind the other, from its first address on
+pub record AreOf (placed : List Placed) (block : Block) (ps : List Placed) : Type 0 where
+  pub many : length ps ≡ block.count
+  pub first : BeginAt block.first ps
+  pub follow : Follow ps
+  pub each : AllByRecursion (StandsIn placed) ps
 
 -- a return site: behind a placed call that is not listed
 pub record IsSite (program : Program) (a : ℕ) : Type 0 where

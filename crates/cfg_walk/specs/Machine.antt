@@ -6,6 +6,7 @@ use Rattle.ev_graph.specs.declared.events.End.{End}
 use Rattle.behavior.specs.Acts.{Permission}
 use Rattle.behavior.specs.Tree.{Tree, Next}
 use Rattle.behavior.specs.Passed.{Passes}
+use Rattle.behavior.specs.Exits.{Exits}
 use Rattle.x64_syntax.specs.declared.placed.Placed.{Placed}
 use Rattle.x64_table.specs.State.{Thread}
 use Rattle.x64_table.specs.Machine.{x64_step, no_entries}
@@ -28,6 +29,10 @@ has_address addresses address = list_any (λ x. address == x) addresses
 -- what the code says to a thread: its instructions and its return sites; no table is known so far
 abbrev pub code_for_threads : Code → machine.Code
 code_for_threads code = record { placed = placed_at code.placed; is_site = has_address code.sites; entry = λ jump. no_entries }
+
+-- the ways into blocks of the code that values choose
+abbrev pub exits_of : Code → Exits
+exits_of code = record { is_site = has_address code.sites; entry = λ table number. None }
 
 -- One step of a thread of the program. Each address has an answer: where no instruction is placed the thread ends by
 -- BadJump, and a return goes to a return site, halts at 0, or ends by BadReturn.

@@ -222,13 +222,17 @@ group_does may known i s at here steps.Input reads range fits fresh = input_step
 group_does may known i s at here steps.Output reads range fits fresh = output_step may known i s at here
 group_does may known i s at here (steps.TrapIf t kind) reads range fits fresh = trap_if_step may known i s at here t kind range reads.0
 
+-- an end reads what a temporary holds
+read_low : (known : ℕ → Known) (i : IrState) (s : AState) → Numbered known i s → (t : Temp) → IsSet (known t.0) → value numbers s (21 + t.0) % 2 ^ 64 ≡ of i t
+read_low known i s here t is_set = ap (λ n. n % 2 ^ 64) (reads_temp known i s here t is_set) ∙ low_is (of i t) (temp_fits known i s here t is_set)
+
 -- the end of the words does what the end of the steps does
 end_does : (end : IrEnd) (known : ℕ → Known) (i : IrState) (s : AState) → Numbered known i s → AllByRecursion (λ t. IsSet (known t)) (end_reads end)
     → Beside lowered 1 (SameNext (SameLeft SameNumbered)) 0 (ir_end end i) (a64_end numbers (selected_end end) s)
 end_does (ends.Goto a) known i s here reads = give (both-go (refl, here.same))
-end_does (ends.Branch t a b) known i s here reads = give (both-go (ap (λ n. ToBlock (if n == 0 then b else a)) (reads_temp known i s here t reads.0), here.same))
-end_does (ends.Return t) known i s here reads = give (both-go (ap ToReturn (reads_temp known i s here t reads.0), here.same))
-end_does (ends.Indexed t table) known i s here reads = give (both-go (ap (ToEntry table) (reads_temp known i s here t reads.0), here.same))
+end_does (ends.Branch t a b) known i s here reads = give (both-go (ap (λ n. ToBlock (if n == 0 then b else a)) (read_low known i s here t reads.0), here.same))
+end_does (ends.Return t) known i s here reads = give (both-go (ap ToReturn (read_low known i s here t reads.0), here.same))
+end_does (ends.Indexed t table) known i s here reads = give (both-go (ap (ToEntry table) (read_low known i s here t reads.0), here.same))
 end_does (ends.Stop kind) known i s here reads = give both-stop
 
 -- what is set is not set by the steps that are left

@@ -190,13 +190,13 @@ module _ (g : ℕ → XReg) (naming : IsNaming g) where
   end_kept (ends.Goto a) s t agree = ended (both-go (refl, same_named g naming (ends.Goto a) s t agree))
   end_kept (ends.Branch r a b) s t agree =
       let same = agree r (inr (0, omega arith, refl)) in
-      ended (both-go (ap (λ v. ToBlock (if v == 0 then b else a)) (sym same), same_named g naming (ends.Branch r a b) s t agree))
+      ended (both-go (ap (λ v. ToBlock (if v % 2 ^ 64 == 0 then b else a)) (sym same), same_named g naming (ends.Branch r a b) s t agree))
   end_kept (ends.Return r) s t agree =
       let same = agree r (inr (0, omega arith, refl)) in
-      ended (both-go (ap ToReturn (sym same), same_named g naming (ends.Return r) s t agree))
+      ended (both-go (ap (λ v. ToReturn (v % 2 ^ 64)) (sym same), same_named g naming (ends.Return r) s t agree))
   end_kept (ends.Indexed r table) s t agree =
       let same = agree r (inr (0, omega arith, refl)) in
-      ended (both-go (ap (ToEntry table) (sym same), same_named g naming (ends.Indexed r table) s t agree))
+      ended (both-go (ap (λ v. ToEntry table (v % 2 ^ 64)) (sym same), same_named g naming (ends.Indexed r table) s t agree))
   end_kept (ends.Stop kind) s t agree = ended both-stop
 
   -- a block over other registers means the block

@@ -55,21 +55,21 @@ module _ (may : Permission) (at stop : ℕ) (s : AState) where
   behind_copy r = record { regs = put 16 (copy r) s.regs; nzcv = s.nzcv }
 
   -- the words behind a return look at its address
-  return_beside : (r : XReg) (b : Bool) → (value xregs s r % 2 ^ 64 == 0) ≡ b
-      → Beside lowered 1 (SameNext Never) 3 (finishes {T = AThread} (ToReturn (value xregs s r))) (a64_words xregs may at (ending (ends.Return r)) 0 s then lands stop)
+  return_beside : (r : XReg) (b : Bool) → (value xregs s r % 2 ^ 64 % 2 ^ 64 == 0) ≡ b
+      → Beside lowered 1 (SameNext Never) 3 (finishes {T = AThread} (ToReturn (value xregs s r % 2 ^ 64))) (a64_words xregs may at (ending (ends.Return r)) 0 s then lands stop)
   return_beside r true e =
-      let moved : low true (value xregs (behind_copy r) (x 16)) ≡ value xregs s r % 2 ^ 64 = ap (low true) (copied (value xregs s r)) ∙ omega arith in
+      let moved : low true (value xregs (behind_copy r) (x 16)) ≡ value xregs s r % 2 ^ 64 % 2 ^ 64 = ap (low true) (copied (value xregs s r)) ∙ omega arith in
       let test : (low true (value xregs (behind_copy r) (x 16)) == 0) ≡ true = ap (λ k. k == 0) moved ∙ e in
       rw (e, test) (spend {less = 2} {more = 3} (omega arith) (spend {less = 1} {more = 2} (omega arith) (spend {less = 0} {more = 1} (omega arith) (give both-stop))))
   return_beside r false e =
-      let moved : low true (value xregs (behind_copy r) (x 16)) ≡ value xregs s r % 2 ^ 64 = ap (low true) (copied (value xregs s r)) ∙ omega arith in
+      let moved : low true (value xregs (behind_copy r) (x 16)) ≡ value xregs s r % 2 ^ 64 % 2 ^ 64 = ap (low true) (copied (value xregs s r)) ∙ omega arith in
       let test : (low true (value xregs (behind_copy r) (x 16)) == 0) ≡ false = ap (λ k. k == 0) moved ∙ e in
       rw (e, test) (spend {less = 2} {more = 3} (omega arith) (spend {less = 1} {more = 2} (omega arith) (spend {less = 0} {more = 1} (omega arith) (give both-stop))))
 
   -- the ending does what the end does
   ends_beside : (fin : AEnd XReg) → EndsLine fin
       → Beside lowered 1 (SameNext Never) 3 (a64_end xregs fin s then finish {T = AThread}) (a64_words xregs may at (ending fin) 0 s then lands stop)
-  ends_beside (ends.Return r) line = return_beside r (value xregs s r % 2 ^ 64 == 0) refl
+  ends_beside (ends.Return r) line = return_beside r (value xregs s r % 2 ^ 64 % 2 ^ 64 == 0) refl
   ends_beside (ends.Stop Divide) line = spend {less = 2} {more = 3} (omega arith) (give both-stop)
   ends_beside (ends.Stop Invalid) line = spend {less = 2} {more = 3} (omega arith) (give both-stop)
   ends_beside (ends.Stop BadReturn) line = spend {less = 2} {more = 3} (omega arith) (give both-stop)

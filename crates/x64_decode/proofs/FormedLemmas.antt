@@ -1,6 +1,9 @@
 -- What bytes spell is formed: registers, memory and numbers are in range, and stand where their instruction has them.
 use Rattle.std.proofs.Common.{◌≡◌, ◌≢◌, ℕ, zero, suc, ◌+◌, ◌-◌, ◌*◌, ◌/◌, ◌%◌, ◌^◌, ◌<◌, Bool, true, false, not, ◌&&◌, ◌==◌, nat_le, nat_lt, if◌then◌else◌, List, [], ◌∷◌, drop, get_or, Option, Some, None, is_some, IfSome, inl, inr, refl, arith}
+use Rattle.std.specs.Prelude.{ℤ, pos, neg_ℤ, ◌-ℤ◌, ◌≤ℤ◌, ◌<ℤ◌}
 use Rattle.std.specs.List.{AllByRecursion}
+use Rattle.std.proofs.lemmas.Int.{ints}
+use Rattle.std.proofs.lemmas.Bool.Decides.{nat_tests}
 use Rattle.std.proofs.lemmas.Bool.{and_parts, cases_Bool, eqb-true, eqb-false}
 use Rattle.x64_syntax.specs.declared.operand.Operand.TheVariants as operand
 use Rattle.x64_syntax.specs.declared.operand.Reg.{Reg}
@@ -13,9 +16,9 @@ use Rattle.x64_decode.specs.declared.row.Code.TheVariants.{One, Two, Three, Four
 use Rattle.x64_decode.specs.declared.row.Front.{Front}
 use Rattle.x64_decode.specs.declared.row.Size.{Size}
 use Rattle.x64_decode.specs.declared.row.Size.TheVariants as size
-use Rattle.x64_decode.specs.Bytes.{IsByte, eight_bytes, extend, four_bytes, two_bytes}
+use Rattle.x64_decode.specs.Bytes.{IsByte, eight_bytes, extend, four_bytes, signed_byte, signed_long, two_bytes}
 use Rattle.x64_decode.specs.Fronts.{operand_width, rex_bit, width_of}
-use Rattle.x64_decode.specs.Operands.{base_of, full_number, has_sib, index_of, is_byte, is_memory, is_rip, lacks_base, low_bits, memory_of, register, rm_operand, scale_of, whole_number}
+use Rattle.x64_decode.specs.Operands.{base_of, displacement, displacement_size, full_number, has_sib, index_of, is_byte, is_memory, is_rip, lacks_base, low_bits, memory_of, register, rm_operand, scale_of, sib_size, whole_number}
 
 -- ---- registers
 
@@ -182,6 +185,30 @@ scale_of-unscaled : (f : Front) (s : ℕ) → index_of f s ≡ None → scale_of
 unfolding scale_of
 scale_of-unscaled f s e = rw e refl
 
+-- numbers of 32 bits with sign
+abbrev pub HasSignedLong : ℤ → Type 0
+HasSignedLong n = (neg_ℤ (pos (2 ^ 31)) ≤ℤ n) × (n <ℤ pos (2 ^ 31))
+
+signed_byte-within : (n : ℕ) → n < 256 → HasSignedLong (signed_byte n)
+unfolding signed_byte
+signed_byte-within n small = grind (arith, nat_tests, ints)
+
+signed_long-within : (n : ℕ) → n < 4294967296 → HasSignedLong (signed_long n)
+unfolding signed_long
+signed_long-within n small = grind (arith, nat_tests, ints)
+
+displacement-within : (count : ℕ) (bytes : List ℕ) → AllByRecursion IsByte bytes → HasSignedLong (displacement count bytes)
+unfolding displacement
+displacement-within count bytes h =
+    elim (count == 1) as (λ b. HasSignedLong (if b then signed_byte (get_or bytes 0 0) else (if count == 4 then signed_long (four_bytes bytes) else pos 0))) [
+      | true ↦ signed_byte-within (get_or bytes 0 0) (byte_at bytes 0 h)
+      | false ↦
+          elim (count == 4) as (λ b. HasSignedLong (if b then signed_long (four_bytes bytes) else pos 0)) [
+            | true ↦ signed_long-within (four_bytes bytes) (four_bytes-small bytes h)
+            | false ↦ (omega (arith, ints), omega (arith, ints))
+          ]
+    ]
+
 pub memory_of-formed : (f : Front) (rest : List ℕ) → AllByRecursion IsByte rest → IsMemory (memory_of f rest)
 unfolding memory_of
 memory_of-formed f rest h =
@@ -194,6 +221,7 @@ memory_of-formed f rest h =
       scale = elim (has_sib m) as (λ b. (k : ℕ) × (k < 4) × ((if b then scale_of f s else 1) ≡ 2 ^ k)) [ true ↦ scale_of-formed f s small | false ↦ (0, omega arith, refl) ];
       unscaled = elim (has_sib m) as (λ b. (if b then index_of f s else None) ≡ None → (if b then scale_of f s else 1) ≡ 1) [ true ↦ scale_of-unscaled f s | false ↦ λ e. refl ];
       relative = λ e. (base_of-relative f m s e, rw (relative_plain m e) refl);
+      offset = displacement-within (displacement_size m s) (drop (1 + sib_size m) rest) (bytes_after (1 + sib_size m) rest h);
     }
 
 -- the r/m operand

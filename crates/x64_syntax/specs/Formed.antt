@@ -1,5 +1,5 @@
 -- What an instruction's operands can be: each instruction that bytes spell is formed so.
-use Rattle.std.specs.Prelude.{◌≡◌, ◌≢◌, ◌⊎◌, ◌<◌, ◌^◌, ℕ, Bool, true, false, None, IfSome, IsSome}
+use Rattle.std.specs.Prelude.{◌≡◌, ◌≢◌, ◌⊎◌, ◌<◌, ◌^◌, ℕ, Bool, true, false, None, IfSome, IsSome, pos, neg_ℤ, ◌≤ℤ◌, ◌<ℤ◌}
 use Rattle.x64_syntax.specs.declared.instr.AluOp.TheVariants as op
 use Rattle.x64_syntax.specs.declared.instr.Instr.{Instr}
 use Rattle.x64_syntax.specs.declared.instr.Instr.TheVariants as instr
@@ -19,13 +19,15 @@ pub record IsRegister (w : Width) (r : Reg) : Type 0 where
   pub number : r.number < 16
   pub high : r.high ≡ true → (w ≡ width.Byte) × (r.number < 4)
 
--- memory: rsp is no index, the scale is 1, 2, 4 or 8, and 1 without an index; relative memory has neither base nor index
+-- Memory: rsp is no index, the scale is 1, 2, 4 or 8, and 1 without an index; relative memory has neither base nor index. The
+-- offset has 32 bits, with sign.
 pub record IsMemory (m : Mem) : Type 0 where
   pub base : IfSome m.base (λ n. n < 16)
   pub index : IfSome m.index (λ n. (n < 16) × (n ≢ 4))
   pub scale : (k : ℕ) × (k < 4) × (m.scale ≡ 2 ^ k)
   pub unscaled : m.index ≡ None → m.scale ≡ 1
   pub relative : m.rip ≡ true → (m.base ≡ None) × (m.index ≡ None)
+  pub offset : (neg_ℤ (pos (2 ^ 31)) ≤ℤ m.offset) × (m.offset <ℤ pos (2 ^ 31))
 
 -- an operand that is a register
 abbrev pub IsInRegister : Width → Operand → Type 0

@@ -1,5 +1,6 @@
 use Rattle.std.proofs.Common.{ℕ, ◌<◌, false, Some, None, inl, inr, refl, arith}
 use Rattle.std.specs.Prelude.{pos}
+use Rattle.std.proofs.lemmas.Int.{ints}
 use Rattle.x64_syntax.specs.Formed.{IsRegister, IsMemory}
 use Rattle.x64_syntax.specs.declared.operand.Width.{Width}
 use Rattle.lift.proofs.tests.store_buffering_is_lifted.Goals as goal
@@ -8,7 +9,7 @@ whole : (w : Width) (n : ℕ) → n < 16 → IsRegister w (record { number = n; 
 whole w n low = record { number = low; high = λ e. absurd (cc) }
 
 held : (n : ℕ) → n < 16 → IsMemory (record { base = Some n; index = None; scale = 1; offset = pos 0; rip = false })
-held n low = record { base = low; index = tt; scale = (0, omega arith, refl); unscaled = λ e. refl; relative = λ e. absurd (cc) }
+held n low = record { base = low; index = tt; scale = (0, omega arith, refl); unscaled = λ e. refl; relative = λ e. absurd (cc); offset = (omega (arith, ints), omega (arith, ints)) }
 
 pub lift_line-requires : goal.lift_line-requires
 lift_line-requires g c = record {
