@@ -1,3 +1,5 @@
 pub mod Private
 pub mod Gaps
 pub mod Planned
+pub mod Guards
+pub mod Realized

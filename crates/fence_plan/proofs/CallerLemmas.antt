@@ -1,0 +1,2 @@
+-- What others cite: planned runs are guarded.
+pub use Rattle.fence_plan.proofs.PlannedRuns.{planned_guards}

@@ -1,0 +1,7 @@
+pub mod GapLemmas
+pub mod PlannedRuns
+pub mod Mapped
+pub mod Mapping
+pub mod Between
+pub mod Views
+pub mod CallerLemmas
