@@ -4,4 +4,5 @@ pub mod Mapped
 pub mod Mapping
 pub mod Between
 pub mod Views
+pub mod Bare
 pub mod CallerLemmas
