@@ -9,3 +9,5 @@ pub use Rattle.fence_plan.proofs.Between.{mapped, full_at_mfence}
 pub use Rattle.fence_plan.proofs.Views.{is_hidden, same_between}
 -- a run without its planned fences
 pub use Rattle.fence_plan.proofs.Bare.{bare, run_bare}
+-- a thread's run that follows the plan, beside what explains it
+pub use Rattle.fence_plan.proofs.Followed.{IsPlannedFor, followed_mapping, followed_full}

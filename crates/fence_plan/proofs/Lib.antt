@@ -5,4 +5,5 @@ pub mod Mapping
 pub mod Between
 pub mod Views
 pub mod Bare
+pub mod Followed
 pub mod CallerLemmas
