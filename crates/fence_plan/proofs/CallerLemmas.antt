@@ -10,4 +10,6 @@ pub use Rattle.fence_plan.proofs.Views.{is_hidden, same_between}
 -- a run without its planned fences
 pub use Rattle.fence_plan.proofs.Bare.{bare, run_bare}
 -- a thread's run that follows the plan, beside what explains it
-pub use Rattle.fence_plan.proofs.Followed.{IsPlannedFor, followed_mapping, followed_full}
+pub use Rattle.fence_plan.proofs.Followed.{turn_is, IsPlannedFor, followed_mapping, followed_full}
+-- runs follow the plan where blocks do
+pub use Rattle.fence_plan.proofs.ByBlocks.{UnfoldsWithin, within-ends, within-goes, within-begins, within-acts, StopsAlike, MayMiss, FollowsBlock, BlocksFollow, blocks_follow}

@@ -52,7 +52,7 @@ same_access xs ys same n a here =
 
 module _ (private : Slot → Bool) where
   -- the turn of an access says whether it is private
-  turn_is : (xs : List Item) (n : ℕ) (a : Access) → slice_get (accesses xs) n ≡ Some a → is_hidden (privacy private xs) n ≡ is_private private a
+  pub turn_is : (xs : List Item) (n : ℕ) (a : Access) → slice_get (accesses xs) n ≡ Some a → is_hidden (privacy private xs) n ≡ is_private private a
   turn_is [] n a here = absurd (none_there here)
   turn_is (items.Access c ∷ xs) zero a here = ap (is_private private) (some_same here)
   turn_is (items.Access c ∷ xs) (suc n) a here = turn_is xs n a here

@@ -6,4 +6,5 @@ pub mod Between
 pub mod Views
 pub mod Bare
 pub mod Followed
+pub mod ByBlocks
 pub mod CallerLemmas
