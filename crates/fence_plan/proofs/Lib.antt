@@ -7,4 +7,5 @@ pub mod Views
 pub mod Bare
 pub mod Followed
 pub mod ByBlocks
+pub mod Dressing
 pub mod CallerLemmas

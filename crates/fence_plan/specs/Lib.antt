@@ -3,3 +3,4 @@ pub mod Gaps
 pub mod Planned
 pub mod Guards
 pub mod Realized
+pub mod Dressed
