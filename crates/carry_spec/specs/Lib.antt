@@ -1,0 +1,6 @@
+pub mod Threads
+pub mod Executions
+pub mod Explained
+pub mod Plan
+pub mod Faults
+pub mod Carries
