@@ -1,0 +1,4 @@
+pub mod Permitted
+pub mod StartBytes
+pub mod SameThreads
+pub mod Accounted

@@ -1,0 +1,2 @@
+//! The translation of a file: the image that is made of it carries it.
+#![tactic(auto)]
