@@ -6,13 +6,13 @@ use Rattle.x64_syntax.specs.declared.instr.Instr.TheVariants as instr
 use Rattle.x64_syntax.specs.declared.instr_slots.InstrSlot.{InstrSlot}
 use Rattle.x64_syntax.specs.declared.placed.Placed.{Placed}
 use Rattle.x64_syntax.specs.declared.slots.Slot.{Slot}
-use Rattle.x64_syntax.specs.declared.slots.SlotKind.TheVariants.{Locked}
 use Rattle.x64_syntax.specs.Slots.{slots}
 use Rattle.cfg_walk.specs.declared.code.Block.{Block}
 use Rattle.cfg_walk.specs.declared.code.Code.{Code}
 use Rattle.cfg_walk.specs.Blocks.{AreOf}
 use Rattle.fence_plan.specs.declared.gap.Gap.{Gap}
 use Rattle.fence_plan.specs.Gaps.{Station, Shared, Strong, gaps}
+use Rattle.fence_plan.specs.Private.{hides}
 use Rattle.carry_spec.specs.declared.summary.Summary.{Summary}
 
 -- the slots of an instruction, by its address
@@ -21,7 +21,7 @@ slots_at p = map (λ (s : InstrSlot). record { address = p.address; kind = s.kin
 
 -- a slot counts for the plan unless it is private
 abbrev pub station : (private : Slot → Bool) → Slot → List Station
-station private slot = if private slot then [] else Shared slot.kind ∷ []
+station private slot = if hides private slot then [] else Shared slot.kind ∷ []
 
 -- the full fence that an instruction is, if it is one
 abbrev pub strong : Instr → List Station
@@ -55,7 +55,7 @@ summary_of private threads pss = record {
   instructions = sum_by (λ ps. length ps) pss;
   blocks = length pss;
   accesses = sum_by (λ ps. length (flat_map slots_at ps)) pss;
-  private = sum_by (λ ps. count_by private (flat_map slots_at ps)) pss;
+  private = sum_by (λ ps. count_by (hides private) (flat_map slots_at ps)) pss;
   frm = sum_by (λ ps. count_by (λ (g : Gap). g.frm) (block_gaps private ps)) pss;
   fww = sum_by (λ ps. count_by (λ (g : Gap). g.fww) (block_gaps private ps)) pss;
   fsc = sum_by (λ ps. count_by (λ (g : Gap). g.fsc) (block_gaps private ps)) pss;

@@ -14,9 +14,19 @@ abbrev pub slot_kind : AccessKind → SlotKind
 slot_kind access.Read = slot.Read
 slot_kind access.Write = slot.Write
 
+-- no locked slot is private
+abbrev pub hides_kind : SlotKind → Bool → Bool
+hides_kind slot.Read private = private
+hides_kind slot.Write private = private
+hides_kind slot.Locked private = false
+
 -- whether an access is private: it is unlocked, and the slot that makes it is a private one
 abbrev pub is_private : (private : Slot → Bool) → Access → Bool
 is_private private a = not a.locked && private (record { address = a.place; kind = slot_kind a.kind })
+
+-- whether a slot is private: it is not locked, and among the private ones
+abbrev pub hides : (private : Slot → Bool) → Slot → Bool
+hides private slot = hides_kind slot.kind (private slot)
 
 -- whether items have an access that is not private
 abbrev pub has_shared : (private : Slot → Bool) → List Item → Bool

@@ -2,3 +2,4 @@ pub mod Permitted
 pub mod StartBytes
 pub mod SameThreads
 pub mod Accounted
+pub mod RowStations

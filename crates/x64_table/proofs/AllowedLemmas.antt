@@ -36,7 +36,7 @@ module _ (may : Permission) (place : ℕ) where
       let each = both (may false address size) (may true address size) here in
       ((refl, fits, each.0, (λ locked. here)), ((refl, mod_below w (256 ^ size) (positive size), each.1, (λ locked. here)), tt))
 
-shape_allowed : {may : Permission} {place : ℕ} {row : Row} {slots : List SlotKind} → Shape may place row slots → AllMakes (IsAllowed may place) row
+shape_allowed : {may : Permission} {place : ℕ} {row : Row} {slots : List SlotKind} {fenced : Bool} → Shape may place row slots fenced → AllMakes (IsAllowed may place) row
 shape_allowed ends = tt
 shape_allowed still = tt
 shape_allowed fence = λ v lt. ((refl, tt), tt)

@@ -5,8 +5,8 @@ pub use Rattle.x64_table.proofs.OpenLemmas.{rows_open}
 pub use Rattle.x64_table.proofs.MachineLemmas.{steps_open}
 -- rows make only items that are allowed
 pub use Rattle.x64_table.proofs.AllowedLemmas.{rows_allowed}
--- the shape of each row: at most one read and then at most one write, with the slots that they are
-pub use Rattle.x64_table.proofs.Shapes.{Shape, row_shape}
+-- the shape of each row: at most one read and then at most one write, with the slots that they are, or a fence
+pub use Rattle.x64_table.proofs.Shapes.{Shape, ends, still, fence, read, write, change, lock, call-in, call-out, jump-in, jump-out, is_mfence, row_shape}
 -- what each run of a row to its end has: a property by cases on its shape, carried to the run
 pub use Rattle.x64_table.proofs.ShapeLemmas.{AllRuns, each_run, rows_slots}
 -- runs of rows and answers of the interpreter

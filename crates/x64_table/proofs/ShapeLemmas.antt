@@ -74,7 +74,7 @@ lock_slots : (written : Option ℕ) (place address size v : ℕ) → slots_made 
 lock_slots None place address size v = refl
 lock_slots (Some w) place address size v = refl
 
-shape_slots : {may : Permission} {place : ℕ} {row : Row} {slots : List SlotKind} → Shape may place row slots → AllRuns (SlotsAre slots) [] row
+shape_slots : {may : Permission} {place : ℕ} {row : Row} {slots : List SlotKind} {fenced : Bool} → Shape may place row slots fenced → AllRuns (SlotsAre slots) [] row
 shape_slots ends = tt
 shape_slots (still {next = next}) = slots_if [] next refl
 shape_slots fence = λ v lt. refl
@@ -195,7 +195,7 @@ module _ (place : ℕ) where
   unfolding answer
   fence_answered exit = λ v lt g here. refl
 
-shape_answered : {may : Permission} {place : ℕ} {row : Row} {slots : List SlotKind} → Shape may place row slots → AllRuns (Answered row) [] row
+shape_answered : {may : Permission} {place : ℕ} {row : Row} {slots : List SlotKind} {fenced : Bool} → Shape may place row slots fenced → AllRuns (Answered row) [] row
 shape_answered {may} {place} (ends {end = end}) = still_answered place (Stops end)
 shape_answered {may} {place} (still {next = next}) = still_answered place next
 shape_answered {may} {place} (fence {exit = exit}) = fence_answered place exit
@@ -298,7 +298,7 @@ module _ (place : ℕ) where
   unfolding answer
   fence_only exit g = acts 0 (lit< tt) gives
 
-shape_only : {may : Permission} {place : ℕ} {row : Row} {slots : List SlotKind} → Shape may place row slots → (g : Given) → Only place row g
+shape_only : {may : Permission} {place : ℕ} {row : Row} {slots : List SlotKind} {fenced : Bool} → Shape may place row slots fenced → (g : Given) → Only place row g
 shape_only {may} {place} (ends {end = end}) g = still_only place (Stops end) g
 shape_only {may} {place} (still {next = next}) g = still_only place next g
 shape_only {may} {place} (fence {exit = exit}) g = fence_only place exit g

@@ -26,20 +26,20 @@ use Rattle.x64_table.specs.Rows.{Exit, State, Return, Row, acts, address_of, alu
 use Rattle.x64_table.specs.Laws.{slot_kinds}
 use mathlib.Core.Path.{fun_ext}
 
--- A row of an instruction at a place, and the kinds of accesses that it makes where it goes on.
-pub data Shape (may : Permission) (place : ℕ) : Row → List SlotKind → Type 0 where
-  ends : {end : End} {kinds : List SlotKind} → Shape may place (Gives (Stops end)) kinds
-  still : {next : Next Exit} → Shape may place (Gives next) []
-  fence : {exit : Exit} → Shape may place (fences_at Mfence place (goes exit)) []
-  read : (address size : ℕ) (next : ℕ → Next Exit) → Shape may place (reads may place address size (λ v. Gives (next v))) (Read ∷ [])
-  write : (address size value : ℕ) (exit : Exit) → Shape may place (writes may place address size value (goes exit)) (Write ∷ [])
+-- A row of an instruction at a place, the kinds of accesses that it makes where it goes on, and whether it is a fence.
+pub data Shape (may : Permission) (place : ℕ) : Row → List SlotKind → Bool → Type 0 where
+  ends : {end : End} {kinds : List SlotKind} {fenced : Bool} → Shape may place (Gives (Stops end)) kinds fenced
+  still : {next : Next Exit} → Shape may place (Gives next) [] false
+  fence : {exit : Exit} → Shape may place (fences_at Mfence place (goes exit)) [] true
+  read : (address size : ℕ) (next : ℕ → Next Exit) → Shape may place (reads may place address size (λ v. Gives (next v))) (Read ∷ []) false
+  write : (address size value : ℕ) (exit : Exit) → Shape may place (writes may place address size value (goes exit)) (Write ∷ []) false
   change : (address size address' size' : ℕ) (value : ℕ → ℕ) (exit : ℕ → Exit)
-      → Shape may place (reads may place address size (λ v. writes may place address' size' (value v) (goes (exit v)))) (Read ∷ Write ∷ [])
-  lock : (address size : ℕ) (new : ℕ → Option ℕ) (exit : ℕ → Exit) → Shape may place (exchanges may place address size new (λ v. goes (exit v))) (Locked ∷ [])
-  call-in : (address size value : ℕ) (exit : ℕ → Exit) → Shape may place (writes may place address size value (takes_in place (λ v. goes (exit v)))) (Write ∷ [])
-  call-out : (address size value output : ℕ) (exit : Exit) → Shape may place (writes may place address size value (puts_out place output (goes exit))) (Write ∷ [])
-  jump-in : (address size : ℕ) (exit : ℕ → ℕ → Exit) → Shape may place (takes_in place (λ v. reads may place address size (λ w. goes (exit v w)))) (Read ∷ [])
-  jump-out : (address size output : ℕ) (exit : ℕ → Exit) → Shape may place (puts_out place output (reads may place address size (λ w. goes (exit w)))) (Read ∷ [])
+      → Shape may place (reads may place address size (λ v. writes may place address' size' (value v) (goes (exit v)))) (Read ∷ Write ∷ []) false
+  lock : (address size : ℕ) (new : ℕ → Option ℕ) (exit : ℕ → Exit) → Shape may place (exchanges may place address size new (λ v. goes (exit v))) (Locked ∷ []) false
+  call-in : (address size value : ℕ) (exit : ℕ → Exit) → Shape may place (writes may place address size value (takes_in place (λ v. goes (exit v)))) (Write ∷ []) false
+  call-out : (address size value output : ℕ) (exit : Exit) → Shape may place (writes may place address size value (puts_out place output (goes exit))) (Write ∷ []) false
+  jump-in : (address size : ℕ) (exit : ℕ → ℕ → Exit) → Shape may place (takes_in place (λ v. reads may place address size (λ w. goes (exit v w)))) (Read ∷ []) false
+  jump-out : (address size output : ℕ) (exit : ℕ → Exit) → Shape may place (puts_out place output (reads may place address size (λ w. goes (exit w)))) (Read ∷ []) false
 
 -- the kinds of slots
 abbrev pub kinds_of : List InstrSlot → List SlotKind
@@ -56,10 +56,15 @@ rsp_stays : (v : ℕ) (t : Thread) → register width.Quad rsp (set width.Quad r
 unfolding register set
 rsp_stays v t = refl
 
+-- whether an instruction is a fence
+abbrev pub is_mfence : Instr → Bool
+is_mfence instr.Mfence = true
+is_mfence i = false
+
 module _ (may : Permission) (place : ℕ) where
-  -- the shape of a row
+  -- the shape of a row that is no fence
   abbrev pub Shaped : Row → List InstrSlot → Type 0
-  Shaped row slots = Shape may place row (kinds_of slots)
+  Shaped row slots = Shape may place row (kinds_of slots) false
 
   fetches_shape : (w : Width) (o : Operand) (t : Thread) (next : ℕ → Next Exit) → Shaped (fetches may place w o t (λ v. Gives (next v))) (read_slots o)
   unfolding fetches
@@ -215,7 +220,7 @@ module _ (may : Permission) (place : ℕ) where
   table_shape flow.ListedOut to t = ends
   table_shape flow.Plain to t = ends
 
-  acts_shape : (i : Instr) (f : Flow) (t : Thread) → IsFormed i → Shaped (acts may place i f t) (slots i f)
+  acts_shape : (i : Instr) (f : Flow) (t : Thread) → IsFormed i → Shape may place (acts may place i f t) (slot_kinds i f) (is_mfence i)
   unfolding acts xchg_row xadd_row mul_row div_row leave_row returns
   acts_shape (instr.Alu o w to from locked) f t formed = alu_shape o w to from locked t formed.0
   acts_shape (instr.Test w to from) f t formed = compare_shape op.And w to from t formed
@@ -257,7 +262,7 @@ module _ (may : Permission) (place : ℕ) where
   acts_shape instr.Mfence f t formed = fence
   acts_shape instr.Ud2 f t formed = ends
 
--- the row of a formed instruction has a shape, with its slots
-pub row_shape : (may : Permission) (i : Instr) (length : ℕ) (f : Flow) (s : Thread) → IsFormed i → Shape may s.at (row_of may i length f s) (slot_kinds i f)
+-- the row of a formed instruction has a shape, with its slots, and is a fence where the instruction is MFENCE
+pub row_shape : (may : Permission) (i : Instr) (length : ℕ) (f : Flow) (s : Thread) → IsFormed i → Shape may s.at (row_of may i length f s) (slot_kinds i f) (is_mfence i)
 unfolding row_of
 row_shape may i length f s formed = acts_shape may s.at i f (record s { at = (s.at + length) % 2 ^ 64 }) formed

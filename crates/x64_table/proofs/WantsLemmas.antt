@@ -341,7 +341,7 @@ module _ (place : ℕ) where
   )
   jump_out_asks false address size output exit = (None, false, record { answers = λ r i. refl; only = λ v lt. ((tt, tt), tt); reads = tt; inputs = tt })
 
-shape_asks : {may : Permission} {place : ℕ} {row : Row} {slots : List SlotKind} → Shape may place row slots → Asked row
+shape_asks : {may : Permission} {place : ℕ} {row : Row} {slots : List SlotKind} {fenced : Bool} → Shape may place row slots fenced → Asked row
 shape_asks {may} {place} (ends {end = end}) = still_asks place (Stops end)
 shape_asks {may} {place} (still {next = next}) = still_asks place next
 shape_asks {may} {place} (fence {exit = exit}) = fence_asks place exit
