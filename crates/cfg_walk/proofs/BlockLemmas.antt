@@ -42,19 +42,19 @@ ends_is instr.Ud2 end = refl
 ends_is i end = refl
 
 -- an instruction with which no block ends goes on behind itself
-falls : (i : Instr) (f : Flow) (end : ℕ) → ends_block i ≡ false → after i f end ≡ end ∷ []
+pub falls : (i : Instr) (f : Flow) (end : ℕ) → ends_block i ≡ false → after i f end ≡ end ∷ []
 falls i f end open_it = after_is i f end ∙ by_way (way_of i end) (sym (ends_is i end) ∙ open_it)
   where
     by_way : (w : Way) → way_ends w ≡ false → way_after w f end ≡ end ∷ []
     by_way way.Falls e = refl
     by_way w e = absurd (cc)
 
-only : (x b i : ℕ) → slice_get (x ∷ []) i ≡ Some b → b ≡ x
+pub only : (x b i : ℕ) → slice_get (x ∷ []) i ≡ Some b → b ≡ x
 only x b zero here = cc
 only x b (suc i) here = absurd (cc)
 
 -- a successor begins a block, or the instruction falls to it
-leads : (i : Instr) (f : Flow) (end b : ℕ) → StandsIn (after i f end) b → StandsIn (led i f end) b ⊎ ((ends_block i ≡ false) × (b ≡ end))
+pub leads : (i : Instr) (f : Flow) (end b : ℕ) → StandsIn (after i f end) b → StandsIn (led i f end) b ⊎ ((ends_block i ≡ false) × (b ≡ end))
 leads i f end b at = by_way (way_of i end) refl
   where
     by_way : (w : Way) → way_of i end ≡ w → StandsIn (led i f end) b ⊎ ((ends_block i ≡ false) × (b ≡ end))
@@ -64,7 +64,7 @@ leads i f end b at = by_way (way_of i end) refl
     by_way w e = inl (subst (λ xs. StandsIn xs b) (leads_on i f end (λ is. absurd (cc))) at)
 
 -- where blocks begin for the sake of an instruction is a successor of it
-led_is_next : (i : Instr) (f : Flow) (end b : ℕ) → StandsIn (led i f end) b → StandsIn (after i f end) b
+pub led_is_next : (i : Instr) (f : Flow) (end b : ℕ) → StandsIn (led i f end) b → StandsIn (after i f end) b
 led_is_next i f end b at = by_way (way_of i end) refl
   where
     by_way : (w : Way) → way_of i end ≡ w → StandsIn (after i f end) b
@@ -74,7 +74,7 @@ led_is_next i f end b at = by_way (way_of i end) refl
     by_way w e = subst (λ xs. StandsIn xs b) (sym (leads_on i f end (λ is. absurd (cc)))) at
 
 -- where a block begins is reached
-leader_reached : (program : Program) (a : ℕ) → IsLeader program a → IsReached program a
+pub leader_reached : (program : Program) (a : ℕ) → IsLeader program a → IsReached program a
 leader_reached program a (at-entry at) = reached-entry at
 leader_reached program a (at-table from at) = reached-table from at
 leader_reached program a (at-led p is at) = at-next p is.reached is.stands (led_is_next p.instr p.flow (end_of p) a at)
@@ -137,7 +137,7 @@ apart_by program placed known p q one other behind inside =
     known.apart q.address (record { p = q; placed = other; here = refl; other = p; other_placed = one; behind = behind; inside = inside })
 
 -- behind an instruction with which no block ends stands the next one
-next : (program : Program) (placed : List Placed) → IsKnown program placed → (k : ℕ) (p : Placed) → slice_get placed k ≡ Some p → ends_block p.instr ≡ false
+pub next : (program : Program) (placed : List Placed) → IsKnown program placed → (k : ℕ) (p : Placed) → slice_get placed k ≡ Some p → ends_block p.instr ≡ false
     → (q : Placed) × (slice_get placed (suc k) ≡ Some q) × (q.address ≡ end_of p)
 next program placed known k p at open_it =
     let is = (known.instructions.exact p).0 (k, at) in
@@ -227,7 +227,7 @@ longer program placed known k n p at (open-end q at_q none stretch) =
     (subst (λ a. IsStretch program a n) by.1 stretch)
 
 -- one instruction is placed at an address
-one_placed : (program : Program) (p q : Placed) → IsPlaced program p → IsPlaced program q → p.address ≡ q.address → p ≡ q
+pub one_placed : (program : Program) (p q : Placed) → IsPlaced program p → IsPlaced program q → p.address ≡ q.address → p ≡ q
 one_placed program p q one other level =
     one_instruction program q.address p q (subst (λ a. StandsAt program a p) level one.stands) other.stands
 

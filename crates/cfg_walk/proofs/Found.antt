@@ -1,18 +1,15 @@
 -- What a thread finds in the code of a program.
-use Rattle.std.proofs.Common.{◌≡◌, ◌↔◌, ◌<◌, ℕ, zero, suc, Bool, true, false, ◌==◌, List, [], ◌∷◌, Some, None, map, refl, sym, ap, ◌∙◌, subst, arith, IsTrue, eq-eqb, ◌⊎◌, inl, inr}
+use Rattle.std.proofs.Common.{◌≡◌, ℕ, zero, suc, Bool, true, false, ◌==◌, List, [], ◌∷◌, Some, None, refl, sym, ap, ◌∙◌, subst, arith, eq-eqb}
 use Rattle.std.specs.Prelude.{if◌then◌else◌}
-use Rattle.std.specs.List.{slice_get, list_any}
+use Rattle.std.specs.List.{slice_get}
 use Rattle.std.proofs.lemmas.Bool.Decides.{nat_tests}
 use Rattle.ev_graph.specs.Places.{StandsIn}
 use Rattle.graph_reach.proofs.Members.{stands_from_any, any_from_stands}
 use Rattle.x64_syntax.specs.declared.placed.Placed.{Placed}
-use Rattle.code_at.specs.Code.{Program, StandsAt}
+use Rattle.code_at.specs.Code.{StandsAt}
 use Rattle.code_at.proofs.CallerLemmas.{one_instruction}
-use Rattle.cfg_walk.specs.declared.code.Code.{Code}
 use Rattle.cfg_walk.specs.Reach.{IsPlaced}
-use Rattle.cfg_walk.specs.Blocks.{IsSite}
-use Rattle.cfg_walk.specs.Code.{IsCodeOf}
-use Rattle.cfg_walk.specs.Machine.{placed_at, has_address, FindsCode, ThreadsFindCode}
+use Rattle.cfg_walk.specs.Machine.{placed_at, ThreadsFindCode}
 
 some_same : {A : Type 0} {x y : A} → Some x ≡ Some y → x ≡ y
 some_same e = cc

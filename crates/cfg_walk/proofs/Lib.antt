@@ -7,4 +7,12 @@ pub mod Gathered
 pub mod Recovered
 pub mod BlockLemmas
 pub mod Found
+pub mod Whole
+pub mod Results
+pub mod RowExits
+pub mod Exits
+pub mod Instructions
+pub mod Steps
+pub mod BlockRuns
+pub mod ByBlocks
 pub mod CallerLemmas

@@ -8,3 +8,4 @@ pub mod Searching
 pub mod Least
 pub mod Ends
 pub mod Machine
+pub mod Running

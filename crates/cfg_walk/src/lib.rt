@@ -16,7 +16,10 @@ mod sites;
 mod way;
 
 pub use code::{Block, Code};
-pub use laws::threads_find_code;
+pub use laws::{
+    blocks_have_instructions, code_begins_blocks, no_wrong_jump, runs_are_paths_of_reach,
+    threads_find_code, threads_run_blocks, threads_run_by_blocks,
+};
 pub use recovery::recover;
 pub use x64_syntax::{Flow, Placed};
 
