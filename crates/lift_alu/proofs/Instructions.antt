@@ -13,7 +13,7 @@ use Rattle.x64_table.specs.State.{Thread}
 use Rattle.x64_table.specs.Rows.{Exit, acts}
 use Rattle.x64_table.specs.Blocks.{goes_on, x64_block}
 use Rattle.limm_ir.specs.Steps.{IrState}
-use Rattle.lift_alu.specs.Lifted.{lifts}
+use Rattle.lift_alu.specs.Lifted.{lifts, lifts_with}
 use Rattle.lift_alu.specs.Meant.{SameThread, end_from}
 use Rattle.lift_alu.proofs.FlagValues.{HasFlags}
 use Rattle.lift_alu.proofs.Rules.{Does}
@@ -25,7 +25,16 @@ Follows may table = goes_on table (x64_block may table [])
 -- The steps of an instruction do what its row does, from a thread that has the address after it.
 abbrev pub Means : Permission → (table place after temps : ℕ) → Instr → Type 0
 Means may table place after temps i = (f : Flow) (t : Thread) (s : IrState) → t.at ≡ after → SameThread t s
-    → Does may (end_from i after temps) (acts may place i f t then Follows may table) (lifts place after i temps) s
+    → Does may (end_from i f after temps) (acts may place i f t then Follows may table) (lifts place after i temps) s
+
+-- the same of an instruction with its flow
+abbrev pub MeansWith : Permission → (table place after temps : ℕ) → Flow → Instr → Type 0
+MeansWith may table place after temps f i = (t : Thread) (s : IrState) → t.at ≡ after → SameThread t s
+    → Does may (end_from i f after temps) (acts may place i f t then Follows may table) (lifts_with place after f i temps) s
+
+-- a thread at another address has the same registers and flags
+pub same_elsewhere : (s : Thread) (i : IrState) (at : ℕ) → SameThread s i → SameThread (record s { at = at }) i
+same_elsewhere s i at same = record { regs = same.regs; fit = same.fit; cf = same.cf; zf = same.zf; sf = same.sf; of = same.of }
 
 -- the flags of a thread and of the steps
 pub has_flags : (s : Thread) (i : IrState) → SameThread s i → HasFlags s.flags i

@@ -10,6 +10,7 @@ mod Instructions
 mod MoveValues
 mod LiftedMoves
 mod LiftedStack
+mod LiftedCalls
 mod LiftedArithmetic
 mod LiftedSteps
 mod Building

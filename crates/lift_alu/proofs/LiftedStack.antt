@@ -40,7 +40,7 @@ is_rbp : IsRegister width.Quad rbp
 is_rbp = low_register width.Quad rbp refl (omega arith)
 
 -- the stack and the frame, as the steps see them
-stack_is : (t : Thread) (s : IrState) → SameThread t s → s.regs 4 ≡ register width.Quad rsp t
+pub stack_is : (t : Thread) (s : IrState) → SameThread t s → s.regs 4 ≡ register width.Quad rsp t
 unfolding register_formula clean
 stack_is t s same = value_register t s width.Quad rsp same is_rsp
 
@@ -53,7 +53,7 @@ frame_is t s same = value_register t s width.Quad rbp same is_rbp
 above_fits : (a : ℕ) → (a + 8) % 2 ^ 64 < 2 ^ 64
 above_fits a = omega arith
 
-below_fits : (a : ℕ) → (a + (2 ^ 64 - 8)) % 2 ^ 64 < 2 ^ 64
+pub below_fits : (a : ℕ) → (a + (2 ^ 64 - 8)) % 2 ^ 64 < 2 ^ 64
 below_fits a = omega arith
 
 module _ (may : Permission) (table place after temps : ℕ) (fits : after < 2 ^ 64) where
@@ -62,7 +62,7 @@ module _ (may : Permission) (table place after temps : ℕ) (fits : after < 2 ^ 
   Here i = Means may table place after temps i
 
   -- the stack begins elsewhere, or the frame
-  sets_stack : (end : IrEnd) (q : Tree (Next (Left Thread))) (t : Thread) (n : ℕ) (j : IrState) (e : Formula) (v : ℕ) (rest : Lifting) → SameThread t j → IsKeptBelow n e → value j e ≡ v → v < 2 ^ 64
+  pub sets_stack : (end : IrEnd) (q : Tree (Next (Left Thread))) (t : Thread) (n : ℕ) (j : IrState) (e : Formula) (v : ℕ) (rest : Lifting) → SameThread t j → IsKeptBelow n e → value j e ≡ v → v < 2 ^ 64
       → Later may end q (set width.Quad rsp v t) n j rest → Does may end q (sets_register 4 e rest n) j
   unfolding puts merged_formula
   sets_stack end q t n j e v rest same kept is fit go = puts_does may end q t n j width.Quad rsp e v rest same is_rsp kept (is ∙ low_of_fit width.Quad v fit) go
@@ -114,12 +114,18 @@ module _ (may : Permission) (table place after temps : ℕ) (fits : after < 2 ^ 
       pops_does (ends.Goto after) t s (λ v. rows.stores may place width.Quad to (popped t) v (popped t)) (λ v. moves place after width.Quad to v done) same
       (λ v fit n j same' held. moves_does may place after fits table width.Quad to (popped t) n j (temps + 1) v same' formed at held fit)
 
-  -- RET
-  pub ret_means : Here instr.Ret
-  unfolding acts lifts returns
-  ret_means f t s at same =
+  -- what is popped is the address to return to
+  pub returns_does : (t : Thread) (s : IrState) → SameThread t s
+      → Does may (ends.Return (temp (temps + 1))) (returns may place t then Follows may table) (pops place after (λ v. done) temps) s
+  unfolding returns
+  returns_does t s same =
       pops_does (ends.Return (temp (temps + 1))) t s (λ v. goes (Return (popped t) v)) (λ v. done) same
       (λ v fit n j same' held. give (both-go (ap ToReturn held.is, same')))
+
+  -- RET
+  pub ret_means : Here instr.Ret
+  unfolding acts lifts
+  ret_means f t s at same = returns_does t s same
 
   -- LEAVE
   pub leave_means : Here instr.Leave

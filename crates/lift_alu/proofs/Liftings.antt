@@ -36,11 +36,16 @@ module _ (end : IrEnd) where
         → Tame end live next most (computes next e ++ xs)
     then_tame next most left xs cost rest = computed end e live next most left xs h.sound (omega (arith, h.in_room, few)) (omega (arith, h.in_price, cost)) rest
 
+    -- its value is kept, where what comes behind may know which temporary has it
+    pub keeps_at : (most left : ℕ) (rest : Formula → Lifting) (next : ℕ) → most_price + left ≤ most → Tame end (place next e ∷ live) (next + size e) left (rest (Kept (place next e)) (next + size e))
+        → Tame end live next most (keeps e rest next)
+    unfolding keeps
+    keeps_at most left rest next cost tame = then_tame next most left _ cost (dropped (beside_place next) tame)
+
     -- its value is kept
     pub keeps_tame : (most left : ℕ) (rest : Formula → Lifting) → most_price + left ≤ most → ((t : ℕ) → TameLifting (t ∷ live) left (rest (Kept t)))
         → TameLifting live most (keeps e rest)
-    unfolding keeps
-    keeps_tame most left rest cost tame next = then_tame next most left _ cost (dropped (beside_place next) (tame (place next e) (next + size e)))
+    keeps_tame most left rest cost tame next = keeps_at most left rest next cost (tame (place next e) (next + size e))
 
     -- a register gets its value
     pub sets_register_tame : (r most left : ℕ) (rest : Lifting) → r < 16 → suc (most_price + left) ≤ most → TameLifting live left rest → TameLifting live most (sets_register r e rest)

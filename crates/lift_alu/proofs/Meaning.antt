@@ -7,9 +7,10 @@ use Rattle.behavior.specs.Seen.{placed_full}
 use Rattle.behavior.specs.Kept.{SameNext, Keeps}
 use Rattle.behavior.proofs.Beside.{Beside, beside_keeps}
 use Rattle.behavior.proofs.SeenLemmas.{sees-placed_full}
-use Rattle.x64_syntax.specs.Formed.{IsFormed}
+use Rattle.x64_syntax.specs.Formed.{IsFormed, IsFlowOf}
 use Rattle.x64_syntax.specs.declared.instr.Instr.{Instr}
 use Rattle.x64_syntax.specs.declared.instr.Instr.TheVariants as instr
+use Rattle.x64_syntax.specs.declared.placed.Flow.{Flow}
 use Rattle.x64_syntax.specs.declared.placed.Placed.{Placed}
 use Rattle.x64_table.specs.Blocks.{goes_on, x64_block}
 use Rattle.x64_table.specs.Rows.{row_of}
@@ -17,12 +18,13 @@ use Rattle.x64_table.specs.State.{Thread}
 use Rattle.limm_ir.specs.Costs.{no_cost}
 use Rattle.limm_ir.specs.Steps.{IrState}
 use Rattle.limm_ir.specs.Blocks.{ir_block}
-use Rattle.lift_alu.specs.Built.{is_built}
-use Rattle.lift_alu.specs.Lifted.{lifts}
+use Rattle.lift_alu.specs.Built.{is_built, is_lifted}
+use Rattle.lift_alu.specs.Lifted.{lifts_with}
 use Rattle.lift_alu.specs.Meant.{SameThread, after, end_from, end_of}
-use Rattle.lift_alu.proofs.Instructions.{Means}
+use Rattle.lift_alu.proofs.Instructions.{same_elsewhere, Means, MeansWith}
 use Rattle.lift_alu.proofs.LiftedMoves.{mov_means, lea_means, movzx_means, movsx_means, movsxd_means, setcc_means, cmovcc_means, widen_means, signfill_means, xchg_means}
 use Rattle.lift_alu.proofs.LiftedStack.{push_means, pop_means, leave_means, ret_means, nop_means, pause_means, endbr_means, mfence_means, ud2_means}
+use Rattle.lift_alu.proofs.LiftedCalls.{call_means, jmp_means, jcc_means}
 use Rattle.lift_alu.proofs.LiftedArithmetic.{alu_means, test_means}
 use Rattle.lift_alu.proofs.LiftedSteps.{inc_means, dec_means, neg_means, not_means, xadd_means}
 
@@ -73,23 +75,27 @@ module _ (may : Permission) (table place next temps : ℕ) (fits : next < 2 ^ 64
   each_means (instr.Shift o w to by) formed built = not_built built
   each_means (instr.Cmpxchg w to from locked) formed built = not_built built
 
+  -- and so do those of each that is lifted, with its flow
+  each_with : (f : Flow) (i : Instr) → IsFormed i → is_lifted i ≡ true → IsFlowOf i f → MeansWith may table place next temps f i
+  unfolding lifts_with
+  each_with f (instr.Call d) formed lifted flows = call_means may table place next temps fits f d flows
+  each_with f (instr.Jmp d) formed lifted flows = jmp_means may table place next temps fits f d flows
+  each_with f (instr.Jcc c d) formed lifted flows = jcc_means may table place next temps fits f c d formed.0
+  each_with f i formed lifted flows = each_means i formed lifted f
+
 -- an address that is cut fits
 cut_fits : (a : ℕ) → a % 2 ^ 64 < 2 ^ 64
 cut_fits a = omega arith
 
--- a thread behind an instruction has the same registers and flags
-same_behind : (s : Thread) (i : IrState) (at : ℕ) → SameThread s i → SameThread (record s { at = at }) i
-same_behind s i at same = record { regs = same.regs; fit = same.fit; cf = same.cf; zf = same.zf; sf = same.sf; of = same.of }
-
 -- the steps do what the row does and then what follows it, where instructions are not counted
-pub lifts_mean : (p : Placed) (temps : ℕ) → IsFormed p.instr → is_built p.instr ≡ true → (may : Permission) (table : ℕ) (s : Thread) (i : IrState)
+pub lifts_mean : (p : Placed) (temps : ℕ) → IsFormed p.instr → is_lifted p.instr ≡ true → IsFlowOf p.instr p.flow → (may : Permission) (table : ℕ) (s : Thread) (i : IrState)
     → s.at ≡ p.address → SameThread s i
     → Keeps placed_full 0 0 (SameNext (SameLeft SameThread)) (row_of may p.instr p.length p.flow s then goes_on table (x64_block may table []))
-    (ir_block no_cost may (lifts p.address (after p) p.instr temps) (end_of p temps) i)
+    (ir_block no_cost may (lifts_with p.address (after p) p.flow p.instr temps) (end_of p temps) i)
 unfolding row_of
-lifts_mean p temps formed built may table s i at same =
+lifts_mean p temps formed lifted flows may table s i at same =
     let next = (s.at + p.length) % 2 ^ 64 in
-    let here = each_means may table s.at next temps (cut_fits (s.at + p.length)) p.instr formed built p.flow (record s { at = next }) i refl (same_behind s i next same) in
+    let here = each_with may table s.at next temps (cut_fits (s.at + p.length)) p.flow p.instr formed lifted flows (record s { at = next }) i refl (same_elsewhere s i next same) in
     beside_keeps placed_full sees-placed_full 0 (SameNext (SameLeft SameThread))
     (subst (λ a. Beside placed_full 0 (SameNext (SameLeft SameThread)) 0 (row_of may p.instr p.length p.flow s then goes_on table (x64_block may table []))
-    (ir_block no_cost may (lifts a ((a + p.length) % 2 ^ 64) p.instr temps) (end_from p.instr ((a + p.length) % 2 ^ 64) temps) i)) at here)
+    (ir_block no_cost may (lifts_with a ((a + p.length) % 2 ^ 64) p.flow p.instr temps) (end_from p.instr p.flow ((a + p.length) % 2 ^ 64) temps) i)) at here)

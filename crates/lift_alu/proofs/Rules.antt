@@ -128,13 +128,19 @@ module _ (may : Permission) (end : IrEnd) where
   does_computed q next e xs i here =
       subst (λ t. Beside placed_full 0 (SameNext (SameLeft SameThread)) 0 q (t then ir_end end)) (sym (computes_then may next e xs i)) here
 
+  -- a value is computed and kept, where what comes behind may know which temporary has it
+  pub keeps_at_does : (q : Tree (Next (Left Thread))) (s : Thread) (next : ℕ) (i : IrState) (e : Formula) (v : ℕ) (rest : Formula → Lifting) → SameThread s i → IsKeptBelow next e → value i e ≡ v
+      → ((j : IrState) → SameThread s j → IsLater next i (next + size e) j → Holds (next + size e) j (place next e) v → Does q (rest (Kept (place next e)) (next + size e)) j)
+      → Does q (keeps e rest next) i
+  unfolding keeps
+  keeps_at_does q s next i e v rest same kept is go =
+      does_computed q next e (rest (Kept (place next e)) (next + size e)) i
+      (go (computed next e i) (same_temps s i (temps_behind next e i i.temps) same) (later_computed next e i) (holds_computed next e i v kept is))
+
   -- a value is computed and kept
   pub keeps_does : (q : Tree (Next (Left Thread))) (s : Thread) (next : ℕ) (i : IrState) (e : Formula) (v : ℕ) (rest : Formula → Lifting) → SameThread s i → IsKeptBelow next e → value i e ≡ v
       → LaterWith q s next i v rest → Does q (keeps e rest next) i
-  unfolding keeps
-  keeps_does q s next i e v rest same kept is go =
-      does_computed q next e (rest (Kept (place next e)) (next + size e)) i
-      (go (place next e) (next + size e) (computed next e i) (same_temps s i (temps_behind next e i i.temps) same) (later_computed next e i) (holds_computed next e i v kept is))
+  keeps_does q s next i e v rest same kept is go = keeps_at_does q s next i e v rest same kept is (λ j. go (place next e) (next + size e) j)
 
   -- a register is set, which the thread after it has too
   pub sets_register_does : (q : Tree (Next (Left Thread))) (s : Thread) (next : ℕ) (i : IrState) (r : ℕ) (e : Formula) (v : ℕ) (rest : Lifting) → SameThread s i → IsKeptBelow next e → value i e ≡ v → v < 2 ^ 64

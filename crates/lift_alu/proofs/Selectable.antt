@@ -1,7 +1,7 @@
 -- The steps of an instruction cost little, use their own temporaries, and have few of them live.
-use Rattle.std.proofs.Common.{◌≡◌, ℕ, ◌+◌, ◌^◌, ◌<◌, ◌≤◌, true, List, [], ◌∷◌, refl, inl, inr, ◌⊎◌, arith}
+use Rattle.std.proofs.Common.{◌≡◌, ℕ, ◌+◌, ◌^◌, ◌<◌, ◌≤◌, true, List, [], ◌∷◌, length, refl, inl, inr, ◌⊎◌, arith}
 use Rattle.word_arith.specs.Masks.{ones}
-use Rattle.x64_syntax.specs.Formed.{IsFormed, IsStored, IsNumber, IsInRegister, IsInMemory}
+use Rattle.x64_syntax.specs.Formed.{IsFormed, IsFlowOf, IsStored, IsNumber, IsInRegister, IsInMemory}
 use Rattle.x64_syntax.specs.Operands.{bits}
 use Rattle.x64_syntax.specs.declared.instr.AluOp.{AluOp}
 use Rattle.x64_syntax.specs.declared.instr.AluOp.TheVariants as op
@@ -11,6 +11,8 @@ use Rattle.x64_syntax.specs.declared.operand.Operand.{Operand}
 use Rattle.x64_syntax.specs.declared.operand.Operand.TheVariants as operand
 use Rattle.x64_syntax.specs.declared.operand.Width.{Width}
 use Rattle.x64_syntax.specs.declared.operand.Width.TheVariants as width
+use Rattle.x64_syntax.specs.declared.placed.Flow.{Flow}
+use Rattle.x64_syntax.specs.declared.placed.Flow.TheVariants as flow
 use Rattle.x64_table.specs.State.{rax, upper}
 use Rattle.x64_table.specs.Rows.{half}
 use Rattle.limm_ir.specs.Conditions.{IsSelectable, Known, Unset, HasConstant}
@@ -19,16 +21,16 @@ use Rattle.limm_ir.specs.declared.block.IrEnd.{IrEnd}
 use Rattle.limm_ir.specs.declared.block.IrEnd.TheVariants as ends
 use Rattle.limm_ir.specs.declared.step.IrOp.{IrOp}
 use Rattle.limm_ir.specs.declared.step.IrOp.TheVariants as ops
-use Rattle.lift_alu.specs.Built.{is_built}
-use Rattle.lift_alu.specs.Formulas.{Kept, Number, Register, Operation, Choice, Lifting, done, temp, keeps}
+use Rattle.lift_alu.specs.Built.{is_built, is_lifted}
+use Rattle.lift_alu.specs.Formulas.{Formula, Kept, Number, Register, Operation, Choice, Lifting, done, temp, place, keeps, sets_register}
 use Rattle.lift_alu.specs.Operands.{clean, with_sign, register_formula}
 use Rattle.lift_alu.specs.Flags.{top, sum_overflow, difference_overflow, borrow, sets_result, sets_flags, condition_formula}
-use Rattle.lift_alu.specs.Lifted.{puts, fetches, puts_operand, changes, result, flags_of, compares, combines, lifts_alu, takes_address, exchanges, adds_exchanged, pushes, pops, leaves_frame, chooses, fences, moves, lifts}
-use Rattle.lift_alu.specs.Meant.{end_from, SetsFrom}
+use Rattle.lift_alu.specs.Lifted.{puts, fetches, puts_operand, changes, result, flags_of, compares, combines, lifts_alu, takes_address, exchanges, adds_exchanged, pushes, pops, leaves_frame, chooses, fences, moves, lifts, takes_in, puts_out, writes_return, calls, jumps, lifts_with}
+use Rattle.lift_alu.specs.Meant.{end_from, led_to, words_of, SetsFrom}
 use Rattle.lift_alu.proofs.Tame.{Among, Tame, tame_more, ended, acting, tame_cost, tame_well, tame_sets, tame_once, tame_few}
 use Rattle.lift_alu.proofs.Modest.{ordinary, own_one, Within}
-use Rattle.lift_alu.proofs.Bounds.{number_most, kept_within, small_within, clean_within, with_sign_within, register_within, address_within, top_within, result_within, sum_overflow_within, difference_overflow_within, condition_within}
-use Rattle.lift_alu.proofs.Liftings.{TameLifting, less_live, done_tame, keeps_tame, sets_register_tame, loads_at, loads_tame, stores_tame, sets_result_tame, sets_flags_tame}
+use Rattle.lift_alu.proofs.Bounds.{number_most, number_within, kept_within, small_within, clean_within, with_sign_within, register_within, address_within, top_within, result_within, sum_overflow_within, difference_overflow_within, condition_within}
+use Rattle.lift_alu.proofs.Liftings.{TameLifting, less_live, done_tame, keeps_at, keeps_tame, sets_register_tame, loads_at, loads_tame, stores_tame, sets_result_tame, sets_flags_tame}
 use Rattle.lift_alu.proofs.OperandSteps.{Reached, reached_stored, reached_register, reached_number, reached_pair, fetch_price, fetch_most, puts_tame, fetches_tame, moves_tame, kept_in_three, puts_operand_tame, puts_kept_operand_tame, flags_tame, changes_tame}
 
 -- the stack pointer, or the frame's, eight bytes further up or down
@@ -279,63 +281,132 @@ module _ (at after goal : ℕ) where
   fences_tame next = acting {left = 0} refl tt (λ known. tt) (omega arith) (omega arith) (ended tt tt)
 
 -- RET: the address that it pops is in the second temporary, and stays there
-return_tame : (at after temps : ℕ) → Tame (ends.Return (temp (temps + 1))) [] temps 62 (pops at after (λ v. done) temps)
+return_tame : (at after temps : ℕ) → Tame (ends.Return (temp (temps + 1))) [] temps 61 (pops at after (λ v. done) temps)
 unfolding pops
 return_tame at after temps =
     let end = ends.Return (temp (temps + 1)) in
     let live = (temps + 1) ∷ [] in
-    loads_at end (Register 4) (pointer_within [] 4 (omega arith)) (omega arith) at 8 62 59 _ temps (inr (inr (inr refl))) (omega arith) (omega arith)
-    (sets_register_tame end (Operation ops.Add (Register 4) (Number 8)) (above live 4 (omega arith)) (omega arith) 4 59 55 done (omega arith) (omega arith)
-    (done_tame end live 55 (inl refl, tt) tt) (temps + 1 + 1))
+    loads_at end (Register 4) (pointer_within [] 4 (omega arith)) (omega arith) at 8 61 58 _ temps (inr (inr (inr refl))) (omega arith) (omega arith)
+    (sets_register_tame end (Operation ops.Add (Register 4) (Number 8)) (above live 4 (omega arith)) (omega arith) 4 58 54 done (omega arith) (omega arith)
+    (done_tame end live 54 (inl refl, tt) tt) (temps + 1 + 1))
 
--- each instruction that is lifted
-lifts_tame : (at after next_address temps : ℕ) (i : Instr) → IsFormed i → is_built i ≡ true → Tame (end_from i next_address temps) [] temps 62 (lifts at after i temps)
+-- a value comes in, or goes out
+module _ (end : IrEnd) (live : List ℕ) (few : length live ≤ 6) (next most left : ℕ) (cost : 1 + left ≤ most) (rest : Lifting) where
+  takes_in_tame : Tame end live next left (rest next) → Tame end live next most (takes_in rest next)
+  takes_in_tame tame = acting {left = left} refl tt (λ known. tt) few (omega (arith, cost)) tame
+
+  puts_out_tame : Tame end live next left (rest next) → Tame end live next most (puts_out rest next)
+  puts_out_tame tame = acting {left = left} refl tt (λ known. tt) few (omega (arith, cost)) tame
+
+-- the address behind an instruction is written below the stack
+module _ (at after goal : ℕ) where
+  writes_return_tame : (rest : Formula → Lifting) → ((v b : ℕ) → TameLifting (goto at after goal) (b ∷ v ∷ []) 39 (rest (Kept b))) → TameLifting (goto at after goal) [] 48 (writes_return at after rest)
+  unfolding writes_return
+  writes_return_tame rest tame =
+      let end = goto at after goal in
+      keeps_tame end (Number after) (number_within [] after) (omega arith) 48 44 _ (omega arith)
+      (λ v. keeps_tame end (Operation ops.Sub (Register 4) (Number 8)) (below (v ∷ []) 4 (omega arith)) (omega arith) 44 41 _ (omega arith)
+      (λ b. stores_tame end (b ∷ v ∷ []) at 8 b v 41 39 _ (inr (inr (inr refl))) (inl refl) (inr (inl refl)) (omega arith) (omega arith) (tame v b)))
+
+-- CALL
+calls_tame : (at after next_address temps d : ℕ) (f : Flow) → IsFlowOf (instr.Call d) f → Tame (end_from (instr.Call d) f next_address temps) [] temps 48 (calls at after f temps)
+unfolding calls
+calls_tame at after next temps d flow.Plain flows =
+    let goal = led_to next d in
+    writes_return_tame at after goal (λ b. sets_register 4 b done)
+    (λ v b. sets_register_tame (goto at after goal) (Kept b) (kept_within (b ∷ v ∷ []) b (inl refl)) (omega arith) 4 39 38 done (omega arith) (omega arith)
+    (nothing_left at after goal (b ∷ v ∷ []) 38)) temps
+calls_tame at after next temps d flow.ListedIn flows =
+    writes_return_tame at after next (λ b. takes_in done)
+    (λ v b n. takes_in_tame (goto at after next) (b ∷ v ∷ []) (omega arith) n 39 38 (omega arith) done (nothing_left at after next (b ∷ v ∷ []) 38 n)) temps
+calls_tame at after next temps d flow.ListedOut flows =
+    writes_return_tame at after next (λ b. puts_out done)
+    (λ v b n. puts_out_tame (goto at after next) (b ∷ v ∷ []) (omega arith) n 39 38 (omega arith) done (nothing_left at after next (b ∷ v ∷ []) 38 n)) temps
+calls_tame at after next temps d flow.TableJump flows = elim flows [ ]
+
+-- JMP
+jumps_tame : (at after next_address temps d : ℕ) (f : Flow) → IsFlowOf (instr.Jmp d) f → Tame (end_from (instr.Jmp d) f next_address temps) [] temps 62 (jumps at after f temps)
+unfolding jumps
+jumps_tame at after next temps d flow.Plain flows = ended tt tt
+jumps_tame at after next temps d flow.ListedIn flows =
+    takes_in_tame (ends.Return (temp (temps + 1))) [] (omega arith) temps 62 61 (omega arith) (pops at after (λ v. done)) (return_tame at after temps)
+jumps_tame at after next temps d flow.ListedOut flows =
+    puts_out_tame (ends.Return (temp (temps + 1))) [] (omega arith) temps 62 61 (omega arith) (pops at after (λ v. done)) (return_tame at after temps)
+jumps_tame at after next temps d flow.TableJump flows = elim flows [ ]
+
+-- Jcc: the end reads its condition
+condition_tame : (code temps goal next_address : ℕ)
+    → Tame (ends.Branch (temp (place temps (condition_formula code))) goal next_address) [] temps 61 (keeps (condition_formula code) (λ v. done) temps)
+condition_tame code temps goal next =
+    let e = condition_formula code in
+    keeps_at (ends.Branch (temp (place temps e)) goal next) e (condition_within [] code) (omega arith) 61 54 (λ v. done) temps (omega arith) (ended (inl refl, tt) tt)
+
+-- each instruction that is built
+lifts_tame : (at after next_address temps : ℕ) (f : Flow) (i : Instr) → IsFormed i → is_built i ≡ true → Tame (end_from i f next_address temps) [] temps 62 (lifts at after i temps)
 unfolding lifts pops
-lifts_tame at after next temps (instr.Alu o w to from locked) formed built = let is = reached_pair w to from formed.0 in alu_tame at after next o w to from is.0 is.1 temps
-lifts_tame at after next temps (instr.Test w to from) formed built = let is = reached_pair w to from formed in compares_tame at after next op.And w to from is.0 is.1 temps
-lifts_tame at after next temps (instr.Xchg w to from locked) formed built = exchanges_tame at after next w to from (reached_stored w to formed.0) (reached_register w from formed.1.0) temps
-lifts_tame at after next temps (instr.Mov w to from) formed built = let is = reached_pair w to from formed in copies_tame at after next w to from is.0 is.1 temps
-lifts_tame at after next temps (instr.Lea w to from) formed built = address_tame at after next w to from (reached_register w to formed.1.0) formed.1.1 temps
-lifts_tame at after next temps (instr.MovZx w v to from) formed built = extends_tame at after next w v to from (reached_register w to formed.1.1.0) (reached_stored v from formed.1.1.1) temps
-lifts_tame at after next temps (instr.MovSx w v to from) formed built = signed_tame at after next w v to from (reached_register w to formed.1.1.0) (reached_stored v from formed.1.1.1) temps
-lifts_tame at after next temps (instr.MovSxd to from) formed built =
+lifts_tame at after next temps f (instr.Alu o w to from locked) formed built = let is = reached_pair w to from formed.0 in alu_tame at after next o w to from is.0 is.1 temps
+lifts_tame at after next temps f (instr.Test w to from) formed built = let is = reached_pair w to from formed in compares_tame at after next op.And w to from is.0 is.1 temps
+lifts_tame at after next temps f (instr.Xchg w to from locked) formed built = exchanges_tame at after next w to from (reached_stored w to formed.0) (reached_register w from formed.1.0) temps
+lifts_tame at after next temps f (instr.Mov w to from) formed built = let is = reached_pair w to from formed in copies_tame at after next w to from is.0 is.1 temps
+lifts_tame at after next temps f (instr.Lea w to from) formed built = address_tame at after next w to from (reached_register w to formed.1.0) formed.1.1 temps
+lifts_tame at after next temps f (instr.MovZx w v to from) formed built = extends_tame at after next w v to from (reached_register w to formed.1.1.0) (reached_stored v from formed.1.1.1) temps
+lifts_tame at after next temps f (instr.MovSx w v to from) formed built = signed_tame at after next w v to from (reached_register w to formed.1.1.0) (reached_stored v from formed.1.1.1) temps
+lifts_tame at after next temps f (instr.MovSxd to from) formed built =
     sign_extends_tame at after next to from (reached_register width.Quad to formed.0) (reached_stored width.Long from formed.1) temps
-lifts_tame at after next temps (instr.Push from) formed built = pushes_tame at after next from (reached_pushed from formed) temps
-lifts_tame at after next temps (instr.Pop to) formed built = pop_tame at after next to (reached_stored width.Quad to formed) temps
-lifts_tame at after next temps instr.Leave formed built = leave_tame at after next temps
-lifts_tame at after next temps instr.Ret formed built = return_tame at after temps
-lifts_tame at after next temps (instr.SetCc c to) formed built = sets_condition_tame at after next c.code to (reached_stored width.Byte to formed.1) temps
-lifts_tame at after next temps (instr.CmovCc c w to from) formed built =
+lifts_tame at after next temps f (instr.Push from) formed built = pushes_tame at after next from (reached_pushed from formed) temps
+lifts_tame at after next temps f (instr.Pop to) formed built = pop_tame at after next to (reached_stored width.Quad to formed) temps
+lifts_tame at after next temps f instr.Leave formed built = leave_tame at after next temps
+lifts_tame at after next temps f instr.Ret formed built = tame_more (omega arith) (return_tame at after temps)
+lifts_tame at after next temps f (instr.SetCc c to) formed built = sets_condition_tame at after next c.code to (reached_stored width.Byte to formed.1) temps
+lifts_tame at after next temps f (instr.CmovCc c w to from) formed built =
     chooses_tame at after next c.code w to from (reached_register w to formed.1.1.0) (reached_stored w from formed.1.1.1) temps
-lifts_tame at after next temps (instr.Inc w to locked) formed built = increases_tame at after next w to (reached_stored w to formed.0) temps
-lifts_tame at after next temps (instr.Dec w to locked) formed built = decreases_tame at after next w to (reached_stored w to formed.0) temps
-lifts_tame at after next temps (instr.Not w to locked) formed built = turns_tame at after next w to (reached_stored w to formed.0) temps
-lifts_tame at after next temps (instr.Neg w to) formed built = negates_tame at after next w to (reached_stored w to formed) temps
-lifts_tame at after next temps (instr.Xadd w to from locked) formed built = adds_exchanged_tame at after next w to from (reached_stored w to formed.0) formed.1.0 temps
-lifts_tame at after next temps (instr.Widen w) formed built = widens_tame at after next w temps
-lifts_tame at after next temps (instr.SignFill w) formed built = fills_tame at after next w temps
-lifts_tame at after next temps instr.Nop formed built = ended tt tt
-lifts_tame at after next temps instr.Pause formed built = ended tt tt
-lifts_tame at after next temps instr.Endbr formed built = ended tt tt
-lifts_tame at after next temps instr.Mfence formed built = fences_tame at after next temps
-lifts_tame at after next temps instr.Ud2 formed built = ended tt (λ same. absurd cc)
-lifts_tame at after next temps i formed built = absurd cc
+lifts_tame at after next temps f (instr.Inc w to locked) formed built = increases_tame at after next w to (reached_stored w to formed.0) temps
+lifts_tame at after next temps f (instr.Dec w to locked) formed built = decreases_tame at after next w to (reached_stored w to formed.0) temps
+lifts_tame at after next temps f (instr.Not w to locked) formed built = turns_tame at after next w to (reached_stored w to formed.0) temps
+lifts_tame at after next temps f (instr.Neg w to) formed built = negates_tame at after next w to (reached_stored w to formed) temps
+lifts_tame at after next temps f (instr.Xadd w to from locked) formed built = adds_exchanged_tame at after next w to from (reached_stored w to formed.0) formed.1.0 temps
+lifts_tame at after next temps f (instr.Widen w) formed built = widens_tame at after next w temps
+lifts_tame at after next temps f (instr.SignFill w) formed built = fills_tame at after next w temps
+lifts_tame at after next temps f instr.Nop formed built = ended tt tt
+lifts_tame at after next temps f instr.Pause formed built = ended tt tt
+lifts_tame at after next temps f instr.Endbr formed built = ended tt tt
+lifts_tame at after next temps f instr.Mfence formed built = fences_tame at after next temps
+lifts_tame at after next temps f instr.Ud2 formed built = ended tt (λ same. absurd cc)
+lifts_tame at after next temps f i formed built = absurd cc
+
+-- each instruction that is lifted, with its flow
+lifts_with_tame : (at after next_address temps : ℕ) (f : Flow) (i : Instr) → IsFormed i → is_lifted i ≡ true → IsFlowOf i f
+    → Tame (end_from i f next_address temps) [] temps (words_of i) (lifts_with at after f i temps)
+unfolding lifts_with
+lifts_with_tame at after next temps f (instr.Call d) formed lifted flows = calls_tame at after next temps d f flows
+lifts_with_tame at after next temps f (instr.Jmp d) formed lifted flows = jumps_tame at after next temps d f flows
+lifts_with_tame at after next temps f (instr.Jcc c d) formed lifted flows = condition_tame c.code temps (led_to next d) next
+lifts_with_tame at after next temps f i formed lifted flows = lifts_tame at after next temps f i formed lifted
+
+-- no instruction has more words
+pub words_most : (i : Instr) → words_of i ≤ 62
+words_most (instr.Call d) = omega arith
+words_most (instr.Jcc c d) = omega arith
+words_most i = omega arith
 
 -- ---- what follows for a block
 
-pub lifts_few : (at after temps : ℕ) (instr : Instr) → IsFormed instr → is_built instr ≡ true → cost_of fenced_cost (lifts at after instr temps) ≤ 62
-lifts_few at after temps instr formed built = tame_cost (lifts_tame at after 0 temps instr formed built)
+module _ (at after temps : ℕ) (f : Flow) (i : Instr) (formed : IsFormed i) (lifted : is_lifted i ≡ true) (flows : IsFlowOf i f) where
+  pub lifts_few : cost_of fenced_cost (lifts_with at after f i temps) ≤ words_of i
+  lifts_few = tame_cost (lifts_with_tame at after 0 temps f i formed lifted flows)
 
-pub lifts_own : (at after temps : ℕ) (instr : Instr) → IsFormed instr → is_built instr ≡ true → SetsFrom temps (lifts at after instr temps)
-lifts_own at after temps instr formed built t set = let within = tame_sets (lifts_tame at after 0 temps instr formed built) t set in (within.0, omega (arith, within.1))
+  pub lifts_most : cost_of fenced_cost (lifts_with at after f i temps) ≤ 62
+  lifts_most = omega (arith, lifts_few, words_most i)
 
-pub lifts_selectable : (at after next_address temps : ℕ) (instr : Instr) → IsFormed instr → is_built instr ≡ true → temps ≤ 2 ^ 24
-    → IsSelectable (lifts at after instr temps) (end_from instr next_address temps)
-lifts_selectable at after next_address temps instr formed built few =
-    let tame = lifts_tame at after next_address temps instr formed built in
-    record {
-      well = tame_well tame (λ t. Unset) (λ t among. elim among [ ]);
-      once = tame_once tame;
-      small = λ t set. omega (arith, (tame_sets tame t set).1, few);
-      few = tame_few tame;
-    }
+  pub lifts_own : SetsFrom temps (lifts_with at after f i temps)
+  lifts_own t set = let within = tame_sets (lifts_with_tame at after 0 temps f i formed lifted flows) t set in (within.0, omega (arith, within.1, words_most i))
+
+  pub lifts_selectable : (next_address : ℕ) → temps ≤ 2 ^ 24 → IsSelectable (lifts_with at after f i temps) (end_from i f next_address temps)
+  lifts_selectable next few =
+      let tame = lifts_with_tame at after next temps f i formed lifted flows in
+      record {
+        well = tame_well tame (λ t. Unset) (λ t among. elim among [ ]);
+        once = tame_once tame;
+        small = λ t set. omega (arith, (tame_sets tame t set).1, words_most i, few);
+        few = tame_few tame;
+      }

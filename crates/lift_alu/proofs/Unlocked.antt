@@ -10,10 +10,12 @@ use Rattle.x64_syntax.specs.declared.operand.Operand.{Operand}
 use Rattle.x64_syntax.specs.declared.operand.Operand.TheVariants as operand
 use Rattle.x64_syntax.specs.declared.operand.Reg.{Reg}
 use Rattle.x64_syntax.specs.declared.operand.Width.{Width}
+use Rattle.x64_syntax.specs.declared.placed.Flow.{Flow}
+use Rattle.x64_syntax.specs.declared.placed.Flow.TheVariants as flow
 use Rattle.limm_ir.specs.Conditions.{IsUnlocked}
 use Rattle.lift_alu.specs.Formulas.{Formula, Kept, Number, Register, Flag, Operation, Choice, computes, size, Lifting, done, keeps, sets_register, sets_flag, loads, stores}
 use Rattle.lift_alu.specs.Flags.{sets_result, sets_flags}
-use Rattle.lift_alu.specs.Lifted.{Place, InRegister, InMemory, Nowhere, in_memory, puts, fetches, finds, reads_there, writes_there, puts_there, moves, puts_operand, changes, flags_of, compares, combines, lifts_alu, takes_address, exchanges, adds_exchanged, pushes, pops, leaves_frame, chooses, lifts}
+use Rattle.lift_alu.specs.Lifted.{Place, InRegister, InMemory, Nowhere, in_memory, puts, fetches, finds, reads_there, writes_there, puts_there, moves, puts_operand, changes, flags_of, compares, combines, lifts_alu, takes_address, exchanges, adds_exchanged, pushes, pops, leaves_frame, chooses, lifts, takes_in, puts_out, writes_return, calls, jumps, lifts_with}
 
 computes_unlocked : (next : ℕ) (e : Formula) → AllByRecursion IsUnlocked (computes next e)
 computes_unlocked next (Kept t) = tt
@@ -174,8 +176,8 @@ module _ (at after : ℕ) where
   chooses_unlocked code w (operand.Mem m) v = done_unlocked
   chooses_unlocked code w (operand.Imm n) v = done_unlocked
 
-  -- no step of an instruction makes a locked access
-  pub lifts_unlocked : (i : Instr) → Unlocked (lifts at after i)
+  -- no step of an instruction that leads nowhere else makes a locked access
+  lifts_unlocked : (i : Instr) → Unlocked (lifts at after i)
   unfolding lifts
   lifts_unlocked (instr.Alu o w to from locked) = alu_unlocked o w to from
   lifts_unlocked (instr.Test w to from) = compares_unlocked op.And w to from
@@ -216,3 +218,29 @@ module _ (at after : ℕ) where
   lifts_unlocked (instr.ImulThree w to from by) = done_unlocked
   lifts_unlocked (instr.Shift o w to by) = done_unlocked
   lifts_unlocked (instr.Cmpxchg w to from locked) = done_unlocked
+
+  writes_return_unlocked : (rest : Formula → Lifting) → UnlockedBy rest → Unlocked (writes_return at after rest)
+  unfolding writes_return
+  writes_return_unlocked rest later = keeps_unlocked _ _ (λ v. keeps_unlocked _ _ (λ b. stores_unlocked at 8 _ _ (rest b) (later b)))
+
+  calls_unlocked : (f : Flow) → Unlocked (calls at after f)
+  unfolding calls
+  calls_unlocked flow.ListedIn = writes_return_unlocked _ (λ b next. (tt, tt))
+  calls_unlocked flow.ListedOut = writes_return_unlocked _ (λ b next. (tt, tt))
+  calls_unlocked flow.Plain = writes_return_unlocked _ (λ b. register_unlocked 4 b done done_unlocked)
+  calls_unlocked flow.TableJump = writes_return_unlocked _ (λ b. register_unlocked 4 b done done_unlocked)
+
+  jumps_unlocked : (f : Flow) → Unlocked (jumps at after f)
+  unfolding jumps
+  jumps_unlocked flow.ListedIn = λ next. (tt, pops_unlocked _ (λ v. done_unlocked) next)
+  jumps_unlocked flow.ListedOut = λ next. (tt, pops_unlocked _ (λ v. done_unlocked) next)
+  jumps_unlocked flow.Plain = done_unlocked
+  jumps_unlocked flow.TableJump = done_unlocked
+
+  -- no step of an instruction makes a locked access
+  pub lifts_with_unlocked : (f : Flow) (i : Instr) → Unlocked (lifts_with at after f i)
+  unfolding lifts_with
+  lifts_with_unlocked f (instr.Call d) = calls_unlocked f
+  lifts_with_unlocked f (instr.Jmp d) = jumps_unlocked f
+  lifts_with_unlocked f (instr.Jcc c d) = keeps_unlocked _ _ (λ v. done_unlocked)
+  lifts_with_unlocked f i = lifts_unlocked i

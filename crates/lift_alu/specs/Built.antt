@@ -34,6 +34,13 @@ is_built instr.Mfence = true
 is_built instr.Ud2 = true
 is_built i = false
 
+-- whether an instruction is lifted: what is built so far, direct calls and jumps, and conditional jumps
+abbrev pub is_lifted : Instr → Bool
+is_lifted (instr.Call d) = true
+is_lifted (instr.Jmp d) = true
+is_lifted (instr.Jcc c d) = true
+is_lifted i = is_built i
+
 -- whether control does not go on behind an instruction
 abbrev pub ends_line : Instr → Bool
 ends_line instr.Ret = true

@@ -11,6 +11,8 @@ use Rattle.x64_syntax.specs.declared.operand.Operand.TheVariants as operand
 use Rattle.x64_syntax.specs.declared.operand.Reg.{Reg}
 use Rattle.x64_syntax.specs.declared.operand.Width.{Width}
 use Rattle.x64_syntax.specs.declared.operand.Width.TheVariants as width
+use Rattle.x64_syntax.specs.declared.placed.Flow.{Flow}
+use Rattle.x64_syntax.specs.declared.placed.Flow.TheVariants as flow
 use Rattle.x64_table.specs.State.{bytes, rax, upper}
 use Rattle.x64_table.specs.Rows.{half}
 use Rattle.limm_ir.specs.declared.step.IrFence.TheVariants.{Fsc}
@@ -38,6 +40,14 @@ kept_in e = 0
 -- the memory whose address is kept
 abbrev pub in_memory : Formula → Place
 in_memory e = InMemory (kept_in e)
+
+-- a value comes in for RAX
+abbrev pub takes_in : Lifting → Lifting
+takes_in rest next = steps.Input ∷ rest next
+
+-- the value of RDI goes out
+abbrev pub puts_out : Lifting → Lifting
+puts_out rest next = steps.Output ∷ rest next
 
 -- the steps of an instruction at a place, behind which stands the address `after`
 module _ (at after : ℕ) where
@@ -141,6 +151,24 @@ module _ (at after : ℕ) where
   unfoldable pub pops : (Formula → Lifting) → Lifting
   pops rest = loads at 8 (Register 4) (λ v. sets_register 4 (Operation ops.Add (Register 4) (Number 8)) (rest v))
 
+  -- the address behind the instruction is written below the stack
+  unfoldable pub writes_return : (Formula → Lifting) → Lifting
+  writes_return rest =
+      keeps (Number after) (λ v. keeps (Operation ops.Sub (Register 4) (Number 8)) (λ below. stores at 8 (kept_in below) (kept_in v) (rest below)))
+
+  -- CALL: the stack begins at what is written. A call of a listed function leaves the stack as it was, and then a value comes in
+  -- or goes out.
+  unfoldable pub calls : Flow → Lifting
+  calls flow.ListedIn = writes_return (λ below. takes_in done)
+  calls flow.ListedOut = writes_return (λ below. puts_out done)
+  calls f = writes_return (λ below. sets_register 4 below done)
+
+  -- JMP has no steps. A jump to a listed function lets a value in or out, and returns.
+  unfoldable pub jumps : Flow → Lifting
+  jumps flow.ListedIn = takes_in (pops (λ v. done))
+  jumps flow.ListedOut = puts_out (pops (λ v. done))
+  jumps f = done
+
   -- LEAVE: the stack begins behind the frame
   unfoldable pub leaves_frame : Lifting
   leaves_frame = loads at 8 (Register 5) (λ v. sets_register 4 (Operation ops.Add (Register 5) (Number 8)) (sets_register 5 v done))
@@ -154,7 +182,7 @@ module _ (at after : ℕ) where
   abbrev pub fences : Lifting
   fences next = steps.Fence Fsc ∷ []
 
-  -- An instruction; those that are not lifted so far have no steps.
+  -- An instruction that leads nowhere but behind itself, RET or UD2; others have no steps here.
   unfoldable pub lifts : Instr → Lifting
   lifts (instr.Alu o w to from locked) = lifts_alu o w to from
   lifts (instr.Test w to from) = compares op.And w to from
@@ -179,3 +207,10 @@ module _ (at after : ℕ) where
   lifts (instr.SignFill w) = puts w (upper w) (clean w (Operation ops.Sar (with_sign w (register_formula w rax)) (Number 63))) done
   lifts instr.Mfence = fences
   lifts _ = done
+
+  -- an instruction with its flow: Jcc keeps its condition for the end of the block
+  unfoldable pub lifts_with : Flow → Instr → Lifting
+  lifts_with f (instr.Call d) = calls f
+  lifts_with f (instr.Jmp d) = jumps f
+  lifts_with f (instr.Jcc c d) = keeps (condition_formula c.code) (λ v. done)
+  lifts_with f i = lifts i

@@ -1,12 +1,12 @@
 ghost use Rattle.std.specs.Prelude.{◌≡◌, ◌≤◌, ◌^◌, true, ◌++◌, IfOk, OnOk};
 ghost use Rattle.std.specs.List.{AllByRecursion};
-ghost use Rattle.x64_syntax.specs.Formed.{IsFormed};
+ghost use Rattle.x64_syntax.specs.Formed.{IsFormed, IsFlowOf};
 ghost use Rattle.limm_ir.specs.Conditions.{IsSelectable, IsUnlocked};
 ghost use Rattle.limm_ir.specs.Costs.{cost_of, fenced_cost};
-ghost use Rattle.lift_alu.specs.Built.{is_built};
+ghost use Rattle.lift_alu.specs.Built.{is_lifted};
 ghost use Rattle.lift_alu.specs.Formulas.{done};
-ghost use Rattle.lift_alu.specs.Lifted.{lifts};
-ghost use Rattle.lift_alu.specs.Meant.{after, end_of, LiftsInstr, SetsFrom};
+ghost use Rattle.lift_alu.specs.Lifted.{lifts_with};
+ghost use Rattle.lift_alu.specs.Meant.{after, end_of, most_words, LiftsInstr, SetsFrom};
 ghost use Rattle.lift_alu.specs.SoFar.{so_far};
 
 use crate::access::Site;
@@ -15,17 +15,19 @@ use crate::small_steps::SmallSteps;
 use ev_graph::NoMemory;
 use limm_ir::{IrFence, IrStep};
 use std::alloc::Global;
-use x64_syntax::{AluOp, Instr, Placed};
+use x64_syntax::{AluOp, Flow, Instr, Placed};
 
 /// The steps of one instruction, which do what it does. Their temporaries begin at `temps`.
 ///
-/// Where it is RET, the second of these has the return address.
+/// Where it is RET, or a jump to a listed function, the second of these has the return address; where
+/// it is Jcc, the last has its condition.
 pub fn lift_instr(alloc: Global, placed: &Placed, temps: u32) -> Result<SmallSteps, NoMemory>
     requires formed { IsFormed placed.now.instr }
-    requires built { is_built placed.now.instr ≡ true }
+    requires lifted { is_lifted placed.now.instr ≡ true }
+    requires flow { IsFlowOf placed.now.instr placed.now.flow }
     requires few { temps ≤ 2 ^ 24 }
     ensures meaning { IfOk result (λ xs. LiftsInstr 62 placed.now temps xs) }
-    ensures few { IfOk result (λ xs. cost_of fenced_cost xs ≤ 62) }
+    ensures few { IfOk result (λ xs. cost_of fenced_cost xs ≤ most_words placed.now) }
     ensures selectable { IfOk result (λ xs. IsSelectable xs (end_of placed.now temps)) }
     ensures own { IfOk result (λ xs. SetsFrom temps xs) }
     ensures unlocked { IfOk result (λ xs. AllByRecursion IsUnlocked xs) }
@@ -36,23 +38,23 @@ pub fn lift_instr(alloc: Global, placed: &Placed, temps: u32) -> Result<SmallSte
 
 /// The steps of one instruction, as the table has them.
 fn lift_table(alloc: Global, placed: &Placed, temps: u32) -> Result<SmallSteps, NoMemory>
-    ensures { IfOk result (λ xs. xs ≡ lifts placed.now.address (after placed.now) placed.now.instr temps) }
+    ensures { IfOk result (λ xs. xs ≡ lifts_with placed.now.address (after placed.now) placed.now.flow placed.now.instr temps) }
 {
     let site = Site {
         at: placed.address,
         after: placed.address.wrapping_add(u64::from(placed.length)),
     };
     let mut builder = Builder::new(alloc, temps);
-    builder.lift(site, &placed.instr)?;
+    builder.lift(site, placed.flow, &placed.instr)?;
     let Builder { steps, next: _ } = builder;
     Ok(steps)
 }
 
 impl Builder {
-    /// Builds the steps of an instruction.
-    #[tactic(auto, unfolding(crate::specs::Lifted::lifts))]
-    fn lift(&mut self, site: Site, instr: &Instr) -> Result<(), NoMemory>
-        ensures { OnOk result (so_far self.old (lifts site.at site.after instr.now) ≡ so_far self.new done) }
+    /// Builds the steps of an instruction with its flow.
+    #[tactic(auto, unfolding(crate::specs::Lifted::lifts, crate::specs::Lifted::lifts_with))]
+    fn lift(&mut self, site: Site, flow: Flow, instr: &Instr) -> Result<(), NoMemory>
+        ensures { OnOk result (so_far self.old (lifts_with site.at site.after flow instr.now) ≡ so_far self.new done) }
     {
         match instr {
             Instr::Alu(op, width, to, from, _) => self.lift_alu(site, *op, *width, to, from),
@@ -83,11 +85,11 @@ impl Builder {
             Instr::Widen(width) => self.widen_accumulator(site, *width),
             Instr::SignFill(width) => self.fill_with_sign(site, *width),
             Instr::Mfence => self.push(IrStep::Fence(IrFence::Fsc)),
-            Instr::Call(_)
-            | Instr::Jmp(_)
-            | Instr::CallInd(_)
+            Instr::Call(_) => self.call(site, flow),
+            Instr::Jmp(_) => self.jump(site, flow),
+            Instr::Jcc(condition, _) => self.keep_condition(*condition),
+            Instr::CallInd(_)
             | Instr::JmpInd(_)
-            | Instr::Jcc(_, _)
             | Instr::Mul(_, _)
             | Instr::ImulOne(_, _)
             | Instr::Div(_, _)

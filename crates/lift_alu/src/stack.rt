@@ -1,6 +1,6 @@
 ghost use Rattle.std.specs.Prelude.{◌≡◌, ◌++◌, IfOk, OnOk};
-ghost use Rattle.lift_alu.specs.Formulas.{Formula, Lifting, Kept, done};
-ghost use Rattle.lift_alu.specs.Lifted.{pushes, pops, leaves_frame};
+ghost use Rattle.lift_alu.specs.Formulas.{Formula, Lifting, Kept, done, sets_register};
+ghost use Rattle.lift_alu.specs.Lifted.{pushes, pops, writes_return, leaves_frame};
 ghost use Rattle.lift_alu.specs.SoFar.{so_far};
 
 use crate::access::Site;
@@ -42,6 +42,27 @@ impl Builder {
         };
         self.set_register(RSP, shorter)?;
         Ok(value)
+    }
+
+    /// Writes the address behind an instruction below the stack, and answers where it is written.
+    pub fn write_return(&mut self, site: Site) -> Result<Temp, NoMemory>
+        ensures { IfOk result (λ t. (rest : Formula → Lifting) → so_far self.old (writes_return site.at site.after rest) ≡ so_far self.new (rest (Kept t.0))) }
+    {
+        let behind = self.keep(Constant(site.after))?;
+        let below = self.keep(Operate {
+            op: IrOp::Sub,
+            first: RegisterNow(RSP),
+            second: Constant(8),
+        })?;
+        self.store(site.at, 8, below, behind)?;
+        Ok(below)
+    }
+
+    /// What is written below the stack becomes its first value.
+    pub fn begin_stack(&mut self, below: Temp) -> Result<(), NoMemory>
+        ensures { OnOk result ((rest : Lifting) → so_far self.old (sets_register 4 (Kept below.0) rest) ≡ so_far self.new rest) }
+    {
+        self.set_register(RSP, below)
     }
 
     /// LEAVE: the stack begins behind the frame.

@@ -1,7 +1,7 @@
-use crate::{is_built, lift_instr};
-use limm_ir::{IrOp, IrStep, Temp};
+use crate::{instr_end, is_built, lift_instr};
+use limm_ir::{IrEnd, IrOp, IrStep, Temp};
 use std::test::Fail;
-use x64_syntax::{AluOp, Flow, Instr, Mem, Operand, Placed, Reg, Width};
+use x64_syntax::{AluOp, Cond, Flow, Instr, Mem, Operand, Placed, Reg, Width};
 
 /// mov [rdi], rax, by which each thread of store buffering writes
 const WRITE: Instr = Instr::Mov(
@@ -105,5 +105,99 @@ fn writes_as_store_buffering_does(rt: HostRuntime) -> Result<(), Fail> {
         IrStep::Store(Temp(1), Temp(0), 8, 0x40100F),
     ];
     assert_eq!(rt; lifted.as_slice(), wanted.as_slice());
+    Ok(())
+}
+
+#[test]
+fn calls(rt: HostRuntime) -> Result<(), Fail> {
+    let placed = Placed {
+        address: 0x401000,
+        length: 5,
+        instr: Instr::Call(0x100),
+        flow: Flow::Plain,
+    };
+    let lifted = lift_instr(rt.alloc(), &placed, 0).map_err(|_| "no memory")?;
+    let wanted = [
+        IrStep::Const(Temp(0), 0x401005),
+        IrStep::GetReg(Temp(1), 4),
+        IrStep::Const(Temp(2), 8),
+        IrStep::Op(IrOp::Sub, Temp(3), Temp(1), Temp(2)),
+        IrStep::Store(Temp(3), Temp(0), 8, 0x401000),
+        IrStep::SetReg(4, Temp(3)),
+    ];
+    assert_eq!(rt; lifted.as_slice(), wanted.as_slice());
+    assert_eq!(rt; instr_end(&placed, 0), IrEnd::Goto(0x401105));
+    Ok(())
+}
+
+#[test]
+fn calls_a_listed_function(rt: HostRuntime) -> Result<(), Fail> {
+    let placed = Placed {
+        address: 0x401000,
+        length: 5,
+        instr: Instr::Call(0x100),
+        flow: Flow::ListedIn,
+    };
+    let lifted = lift_instr(rt.alloc(), &placed, 0).map_err(|_| "no memory")?;
+    let wanted = [
+        IrStep::Const(Temp(0), 0x401005),
+        IrStep::GetReg(Temp(1), 4),
+        IrStep::Const(Temp(2), 8),
+        IrStep::Op(IrOp::Sub, Temp(3), Temp(1), Temp(2)),
+        IrStep::Store(Temp(3), Temp(0), 8, 0x401000),
+        IrStep::Input,
+    ];
+    assert_eq!(rt; lifted.as_slice(), wanted.as_slice());
+    assert_eq!(rt; instr_end(&placed, 0), IrEnd::Goto(0x401005));
+    Ok(())
+}
+
+#[test]
+fn jumps_to_a_listed_function(rt: HostRuntime) -> Result<(), Fail> {
+    let placed = Placed {
+        address: 0x401000,
+        length: 5,
+        instr: Instr::Jmp(0x100),
+        flow: Flow::ListedOut,
+    };
+    let lifted = lift_instr(rt.alloc(), &placed, 0).map_err(|_| "no memory")?;
+    let wanted = [
+        IrStep::Output,
+        IrStep::GetReg(Temp(0), 4),
+        IrStep::Load(Temp(1), Temp(0), 8, 0x401000),
+        IrStep::GetReg(Temp(2), 4),
+        IrStep::Const(Temp(3), 8),
+        IrStep::Op(IrOp::Add, Temp(4), Temp(2), Temp(3)),
+        IrStep::SetReg(4, Temp(4)),
+    ];
+    assert_eq!(rt; lifted.as_slice(), wanted.as_slice());
+    assert_eq!(rt; instr_end(&placed, 0), IrEnd::Return(Temp(1)));
+    Ok(())
+}
+
+// jg, backwards by 16 bytes from its end: neither ZF nor SF other than OF
+#[test]
+fn jumps_where_greater(rt: HostRuntime) -> Result<(), Fail> {
+    let placed = Placed {
+        address: 0x401000,
+        length: 2,
+        instr: Instr::Jcc(Cond { code: 15 }, 0xFFFF_FFFF_FFFF_FFF0),
+        flow: Flow::Plain,
+    };
+    let lifted = lift_instr(rt.alloc(), &placed, 0).map_err(|_| "no memory")?;
+    let wanted = [
+        IrStep::GetFlag(Temp(0), 1),
+        IrStep::GetFlag(Temp(1), 2),
+        IrStep::GetFlag(Temp(2), 3),
+        IrStep::Op(IrOp::Xor, Temp(3), Temp(1), Temp(2)),
+        IrStep::Op(IrOp::Or, Temp(4), Temp(0), Temp(3)),
+        IrStep::Const(Temp(5), 1),
+        IrStep::Op(IrOp::Xor, Temp(6), Temp(4), Temp(5)),
+    ];
+    assert_eq!(rt; lifted.as_slice(), wanted.as_slice());
+    assert_eq!(rt;
+        instr_end(&placed, 0),
+        IrEnd::Branch(Temp(6), 0x400FF2, 0x401002)
+    );
     Ok(())
 }
