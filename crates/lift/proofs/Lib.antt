@@ -1,3 +1,4 @@
 mod Meaning
 mod Selectable
 mod Lines
+mod Recovered

@@ -14,6 +14,7 @@ use Rattle.behavior.proofs.Results.{results_any, results_then, Known, keeps_know
 use Rattle.behavior.proofs.Unfolding.{AllResults}
 use Rattle.x64_syntax.specs.declared.instr.Instr.{Instr}
 use Rattle.x64_syntax.specs.declared.instr.Instr.TheVariants as instr
+use Rattle.x64_syntax.specs.declared.placed.Flow.{Flow}
 use Rattle.x64_syntax.specs.declared.placed.Placed.{Placed}
 use Rattle.x64_table.specs.State.{Thread}
 use Rattle.x64_table.specs.Rows.{Exit, State, Return, Indexed, row_of}
@@ -25,9 +26,9 @@ use Rattle.limm_ir.specs.declared.block.IrEnd.{IrEnd}
 use Rattle.limm_ir.specs.declared.block.IrEnd.TheVariants.{Goto}
 use Rattle.limm_ir.specs.declared.step.IrStep.{IrStep}
 use Rattle.limm_ir.proofs.CallerLemmas.{steps-append}
-use Rattle.lift_alu.specs.Built.{ends_line}
+use Rattle.cfg_walk.specs.Blocks.{ends_block}
 use Rattle.lift_alu.specs.Meant.{SameThread, after, end_from, end_of, AreStepsOf}
-use Rattle.lift.specs.Block.{Follow, GoOn, first_of, end_from as end_of_all, AreStepsFrom, LiftsBlock}
+use Rattle.lift.specs.Block.{Follow, LeadOn, first_of, end_from as end_of_all, AreStepsFrom, LiftsBlock}
 
 -- ---- one instruction, and then others
 
@@ -86,47 +87,14 @@ target_leads : (may : Permission) (xs : List IrStep) (a : ℕ) (i : IrState) →
 target_leads may xs a i =
     results_then (λ j. Unit {0}) (Leads a) (ir_steps fenced_cost may xs i) (ir_end (Goto a)) (results_any (ir_steps fenced_cost may xs i)) (λ j known. refl)
 
--- an instruction behind which control goes on ends in a jump to the next address
-end_goes_on : (i : Instr) (a temps : ℕ) → ends_line i ≡ false → end_from i a temps ≡ Goto a
-end_goes_on instr.Ret a temps e = absurd (cc)
-end_goes_on instr.Ud2 a temps e = absurd (cc)
-end_goes_on (instr.Alu o w to from locked) a temps e = refl
-end_goes_on (instr.Test w to from) a temps e = refl
-end_goes_on (instr.Xchg w to from locked) a temps e = refl
-end_goes_on (instr.Mov w to from) a temps e = refl
-end_goes_on (instr.Lea w to from) a temps e = refl
-end_goes_on (instr.MovZx w v to from) a temps e = refl
-end_goes_on (instr.MovSx w v to from) a temps e = refl
-end_goes_on (instr.MovSxd to from) a temps e = refl
-end_goes_on (instr.Push from) a temps e = refl
-end_goes_on (instr.Pop to) a temps e = refl
-end_goes_on instr.Leave a temps e = refl
-end_goes_on (instr.Call d) a temps e = refl
-end_goes_on (instr.Jmp d) a temps e = refl
-end_goes_on (instr.CallInd to) a temps e = refl
-end_goes_on (instr.JmpInd to) a temps e = refl
-end_goes_on (instr.Jcc c d) a temps e = refl
-end_goes_on (instr.SetCc c to) a temps e = refl
-end_goes_on (instr.CmovCc c w to from) a temps e = refl
-end_goes_on (instr.Inc w to locked) a temps e = refl
-end_goes_on (instr.Dec w to locked) a temps e = refl
-end_goes_on (instr.Not w to locked) a temps e = refl
-end_goes_on (instr.Neg w to) a temps e = refl
-end_goes_on (instr.Mul w from) a temps e = refl
-end_goes_on (instr.ImulOne w from) a temps e = refl
-end_goes_on (instr.Div w from) a temps e = refl
-end_goes_on (instr.Idiv w from) a temps e = refl
-end_goes_on (instr.ImulTwo w to from) a temps e = refl
-end_goes_on (instr.ImulThree w to from by) a temps e = refl
-end_goes_on (instr.Shift o w to by) a temps e = refl
-end_goes_on (instr.Widen w) a temps e = refl
-end_goes_on (instr.SignFill w) a temps e = refl
-end_goes_on (instr.Cmpxchg w to from locked) a temps e = refl
-end_goes_on (instr.Xadd w to from locked) a temps e = refl
-end_goes_on instr.Nop a temps e = refl
-end_goes_on instr.Pause a temps e = refl
-end_goes_on instr.Endbr a temps e = refl
-end_goes_on instr.Mfence a temps e = refl
+-- an instruction that ends no block goes on at the next address
+end_goes_on : (i : Instr) (f : Flow) (a temps : ℕ) → ends_block i ≡ false → end_from i f a temps ≡ Goto a
+end_goes_on (instr.Call d) f a temps e = absurd (cc)
+end_goes_on (instr.Jmp d) f a temps e = absurd (cc)
+end_goes_on (instr.Jcc c d) f a temps e = absurd (cc)
+end_goes_on instr.Ret f a temps e = absurd (cc)
+end_goes_on instr.Ud2 f a temps e = absurd (cc)
+end_goes_on i f a temps e = refl
 
 -- the block of the first, and that of the others from wherever it leaves to
 behind_first : (may : Permission) (table a : ℕ) (ps : List Placed) (ys : List IrStep) (end : IrEnd) → first_of ps ≡ a → LiftsBlock ps ys end
@@ -139,11 +107,11 @@ behind_first may table a ps ys end first lifts l r ((same_target, same), stands,
     (subst (λ t. Keeps placed_full 62 0 (SameNext (SameLeft SameThread)) (x64_block may table ps l.state) (then_at (ir_block fenced_cost may ys end) t r.state)) (sym leads)
     (lifts may table l.state r.state at same))
 
-first_then : (p q : Placed) (ps : List Placed) (temps : ℕ) (xs ys : List IrStep) (end : IrEnd) → q.address ≡ after p → ends_line p.instr ≡ false → AreStepsOf p temps xs
+first_then : (p q : Placed) (ps : List Placed) (temps : ℕ) (xs ys : List IrStep) (end : IrEnd) → q.address ≡ after p → ends_block p.instr ≡ false → AreStepsOf p temps xs
     → LiftsBlock (q ∷ ps) ys end → LiftsBlock (p ∷ q ∷ ps) (xs ++ ys) end
 first_then p q ps temps xs ys end follows goes one later may table s i at same =
     let a = after p in
-    let ends : end_of p temps ≡ Goto a = end_goes_on p.instr a temps goes in
+    let ends : end_of p temps ≡ Goto a = end_goes_on p.instr p.flow a temps goes in
     let first = subst (λ e. Keeps placed_full 62 0 (SameNext (SameLeft SameThread)) (x64_block may table (p ∷ []) s) (ir_block fenced_cost may xs e i)) ends (one.meaning may table s i at same) in
     let known = keeps_known placed_full 62 0 (SameLeft SameThread) StandsThere (Leads a) (source_stands may table p s) (target_leads may xs a i) first in
     let both = keeps_then placed_full sees-placed_full 62 0 (Known placed_full 62 0 (SameLeft SameThread) StandsThere (Leads a)) (SameLeft SameThread)
@@ -152,7 +120,7 @@ first_then p q ps temps xs ys end follows goes one later may table s i at same =
     (subst (λ t. Keeps placed_full 62 0 (SameNext (SameLeft SameThread)) (x64_block may table (p ∷ []) s then then_block (x64_block may table (q ∷ ps))) t) (sym (target_parts may xs ys a end i)) both)
 
 -- the steps of instructions one behind the other do what these do
-pub block_means : (p : Placed) (ps : List Placed) (temps : ℕ) (steps : List IrStep) → Follow (p ∷ ps) → GoOn (p ∷ ps) → AreStepsFrom temps (p ∷ ps) steps → LiftsBlock (p ∷ ps) steps (end_of_all temps (p ∷ ps))
+pub block_means : (p : Placed) (ps : List Placed) (temps : ℕ) (steps : List IrStep) → Follow (p ∷ ps) → LeadOn (p ∷ ps) → AreStepsFrom temps (p ∷ ps) steps → LiftsBlock (p ∷ ps) steps (end_of_all temps (p ∷ ps))
 block_means p [] temps steps follow go_on (xs, ys, same, one, none) =
     let alone : steps ≡ xs = same ∙ ap (λ l. xs ++ l) none ∙ append-nil xs in
     subst (λ l. LiftsBlock (p ∷ []) l (end_of p temps)) (sym alone) (λ may table s i at same. one.meaning may table s i at same)

@@ -1,8 +1,9 @@
 -- Steps of instructions one behind the other, each with temporaries of its own, may be selected where those of each may be.
 use Rattle.std.proofs.Common.{◌≡◌, ℕ, zero, suc, ◌+◌, ◌*◌, ◌^◌, ◌<◌, ◌≤◌, ◌==◌, Bool, true, false, List, [], ◌∷◌, ◌++◌, length, take, refl, sym, ap, ◌∙◌, subst, inl, inr, arith, append_assoc}
-use Rattle.std.specs.Prelude.{◌⊎◌, if◌then◌else◌, slice_index_or, Option, Some, None, Contains}
+use Rattle.std.specs.Prelude.{◌⊎◌, sum_by, if◌then◌else◌, slice_index_or, Option, Some, None, Contains}
 use Rattle.std.specs.List.{AllByRecursion}
 use Rattle.std.proofs.lemmas.Bool.Decides.{nat_tests}
+use Rattle.std.proofs.lemmas.List.Sums.{sum_by-cons}
 use Rattle.std.proofs.lemmas.List.{append-nil, take_more, length-take-le}
 use Rattle.x64_syntax.specs.declared.placed.Placed.{Placed}
 use Rattle.limm_ir.specs.declared.block.IrEnd.{IrEnd}
@@ -13,7 +14,7 @@ use Rattle.limm_ir.specs.declared.step.IrStep.TheVariants as steps
 use Rattle.limm_ir.specs.Conditions.{step_reads, step_sets, end_reads, Known, Unset, Set, Constant, IsSet, know, learn, HasConstant, InRange, IsWell, IsWellMade, IsSetIn, SetsOnce, IsRead, IsLiveAt, LiveAtMost, IsUnlocked, IsSelectable}
 use Rattle.limm_ir.specs.Costs.{cost_of, fenced_cost}
 use Rattle.limm_ir.proofs.CallerLemmas.{cost_of-append}
-use Rattle.lift_alu.specs.Meant.{end_of, AreStepsOf}
+use Rattle.lift_alu.specs.Meant.{end_of, most_words, AreStepsOf}
 use Rattle.lift.specs.Block.{end_from, AreStepsFrom}
 
 -- ---- what is known may be more
@@ -326,12 +327,13 @@ block_selectable p (q ∷ ps) temps steps (here, later, same, one, rest) =
     subst (λ l. IsSelectable l (end_from temps (p ∷ q ∷ ps))) (sym same)
     (selectable_then here later (end_of p temps) (end_from (temps + 256) (q ∷ ps)) one.selectable (block_selectable q ps (temps + 256) later rest) apart)
 
--- they cost at most 62 for each instruction
-pub block_few : (ps : List Placed) (temps : ℕ) (steps : List IrStep) → AreStepsFrom temps ps steps → cost_of fenced_cost steps ≤ 62 * length ps
+-- they have no more words than the instructions have at most
+pub block_few : (ps : List Placed) (temps : ℕ) (steps : List IrStep) → AreStepsFrom temps ps steps → cost_of fenced_cost steps ≤ sum_by most_words ps
 block_few [] temps steps none = let zero_cost : cost_of fenced_cost steps ≡ 0 = ap (cost_of fenced_cost) none in omega (arith, zero_cost)
 block_few (p ∷ ps) temps steps (here, later, same, one, rest) =
     let parts : cost_of fenced_cost steps ≡ cost_of fenced_cost here + cost_of fenced_cost later = ap (cost_of fenced_cost) same ∙ cost_of-append fenced_cost here later in
-    omega (arith, parts, one.few, block_few ps (temps + 256) later rest)
+    let words = sum_by-cons most_words p ps in
+    omega (arith, parts, words, one.few, block_few ps (temps + 256) later rest)
 
 unlocked_then : (xs ys : List IrStep) → AllByRecursion IsUnlocked xs → AllByRecursion IsUnlocked ys → AllByRecursion IsUnlocked (xs ++ ys)
 unlocked_then [] ys one two = two

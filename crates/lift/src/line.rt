@@ -1,18 +1,14 @@
-ghost use Rattle.std.specs.Prelude.{◌≡◌, ◌*◌, ◌≤◌, ◌^◌, IfOk, length};
+ghost use Rattle.std.specs.Prelude.{◌≡◌, ◌*◌, ◌≤◌, IfOk, length};
 ghost use Rattle.std.specs.List.{AllByRecursion};
 ghost use Rattle.limm_ir.specs.Conditions.{IsSelectable, IsUnlocked};
 ghost use Rattle.limm_ir.specs.Costs.{cost_of, fenced_cost};
-ghost use Rattle.lift_alu.specs.Meant.{end_of, after};
-ghost use Rattle.lift.specs.Block.{AreLiftable, IsLiftable, AreStepsFrom, LiftsBlock, first_of, end_from};
+ghost use Rattle.lift.specs.Block.{AreLiftable, LiftsBlock, first_of, end_from};
 
-use ev_graph::{List, NoMemory, TrapKind};
-use lift_alu::lift_instr;
-use limm_ir::{IrBlock, IrEnd, IrStep, Temp};
+use crate::placed::lift_placed;
+use ev_graph::NoMemory;
+use limm_ir::IrBlock;
 use std::alloc::Global;
-use x64_syntax::{Instr, Placed};
-
-/// How many temporaries an instruction has of its own.
-const TEMPS: u32 = 256;
+use x64_syntax::Placed;
 
 /// The block of instructions that stand one behind the other, at least one and at most 65,536, of
 /// which the last alone may end a block.
@@ -25,49 +21,6 @@ pub fn lift_line(alloc: Global, placed: &[Placed]) -> Result<IrBlock, NoMemory>
     ensures selectable { IfOk result (λ b. IsSelectable b.steps b.end) }
     ensures unlocked { IfOk result (λ b. AllByRecursion IsUnlocked b.steps) }
 {
-    let steps = lift_each(alloc, placed)?;
-    Ok(IrBlock {
-        first: placed.first().map_or(0, |one| one.address),
-        steps: List::of(steps),
-        end: line_end(placed),
-    })
-}
-
-/// The steps of instructions, one behind the other.
-fn lift_each(alloc: Global, placed: &[Placed]) -> Result<Vec<IrStep>, NoMemory>
-    requires each { AllByRecursion IsLiftable placed.now }
-    requires few { length placed.now ≤ 2 ^ 16 }
-    ensures { IfOk result (λ steps. AreStepsFrom 0 placed.now steps.items) }
-{
-    let mut steps = Vec::new(alloc);
-    let mut temps = 0;
-    for one in placed {
-        let lifted = lift_instr(alloc, one, temps)?;
-        steps.extend_from_slice(lifted.as_slice())?;
-        temps += TEMPS;
-    }
-    Ok(steps)
-}
-
-/// How the block ends: as its last instruction.
-fn line_end(placed: &[Placed]) -> IrEnd
-    requires { length placed.now ≤ 2 ^ 16 }
-    ensures { result ≡ end_from 0 placed.now }
-{
-    match placed.last() {
-        Some(last) => instr_end(last, TEMPS * (placed.len() as u32 - 1)),
-        None => IrEnd::Goto(0),
-    }
-}
-
-/// How a block ends whose last instruction this is, with temporaries from `temps` on.
-fn instr_end(last: &Placed, temps: u32) -> IrEnd
-    requires { temps ≤ 2 ^ 24 }
-    ensures { result ≡ end_of last.now temps }
-{
-    match last.instr {
-        Instr::Ret => IrEnd::Return(Temp(temps + 1)),
-        Instr::Ud2 => IrEnd::Stop(TrapKind::Invalid),
-        _ => IrEnd::Goto(last.address.wrapping_add(u64::from(last.length))),
-    }
+    let block = lift_placed(alloc, placed)?;
+    Ok(block)
 }

@@ -1,5 +1,15 @@
-use crate::lift_line;
+ghost use Rattle.std.specs.Prelude.{◌≡◌, ◌≤◌, ◌^◌, length, IfOk};
+ghost use Rattle.elf_read.specs.Elf.{IsProgram, parts_of};
+ghost use Rattle.gen_input.specs.BuiltFile.{IsShort};
+ghost use Rattle.lift.specs.Recovered.{IsRecovered};
+
+use crate::{lift_block, lift_line};
+use cfg_walk::{Code, recover};
+use elf_read::{Elf, read_elf};
+use ev_graph::List;
+use gen_input::{Symbol, build};
 use limm_ir::{IrEnd, IrOp, IrStep, Temp};
+use std::alloc::Global;
 use std::test::Fail;
 use x64_syntax::{Flow, Instr, Mem, Operand, Placed, Reg, Width};
 
@@ -102,5 +112,54 @@ fn store_buffering_is_lifted(rt: HostRuntime) -> Result<(), Fail> {
     assert_eq!(rt; block.first, 0x401000);
     assert_eq!(rt; block.steps.as_slice(), wanted.as_slice());
     assert_eq!(rt; block.end, IrEnd::Return(Temp(1281)));
+    Ok(())
+}
+
+/// A program with this code at 401000, where its one thread begins.
+fn program(alloc: Global, code: &[u8]) -> Result<Elf, Fail>
+    requires { length code.now ≤ 2 ^ 20 }
+    ensures { IfOk result (λ elf. IsProgram (parts_of elf) elf.threads) }
+{
+    let symbols = [Symbol {
+        name: List::of(Vec::from_slice(alloc, b"thread_0")?),
+        address: 0x401000,
+    }];
+    let file = build(alloc, code, &[0; 64], 0x800000, &symbols).map_err(|_| "not built")?;
+    let elf = read_elf(alloc, &file).map_err(|_| "refused")?;
+    Ok(elf)
+}
+
+/// The code of a program that is accepted.
+fn recovered(alloc: Global, code: &[u8]) -> Result<Code, Fail>
+    requires { length code.now ≤ 2 ^ 20 }
+    ensures { IfOk result IsRecovered }
+{
+    let elf = program(alloc, code)?;
+    match recover(alloc, &elf) {
+        Ok(code) => Ok(code),
+        Err(_) => Err("refused".into()),
+    }
+}
+
+// 401000: nop; jne 401000; ret, where the second block is the return
+#[test]
+fn a_loop_is_lifted(rt: HostRuntime) -> Result<(), Fail> {
+    let alloc = rt.alloc();
+    let code = recovered(alloc, b"\x90\x75\xFD\xC3")?;
+    if code.blocks.as_slice().len() != 2 {
+        return Err("not two blocks".into());
+    }
+    let around = lift_block(alloc, &code, 0).map_err(|_| "no memory")?;
+    let wanted = [
+        IrStep::GetFlag(Temp(256), 1),
+        IrStep::Const(Temp(257), 1),
+        IrStep::Op(IrOp::Xor, Temp(258), Temp(256), Temp(257)),
+    ];
+    assert_eq!(rt; around.first, 0x401000);
+    assert_eq!(rt; around.steps.as_slice(), wanted.as_slice());
+    assert_eq!(rt; around.end, IrEnd::Branch(Temp(258), 0x401000, 0x401003));
+    let behind = lift_block(alloc, &code, 1).map_err(|_| "no memory")?;
+    assert_eq!(rt; behind.first, 0x401003);
+    assert_eq!(rt; behind.end, IrEnd::Return(Temp(1)));
     Ok(())
 }

@@ -4,6 +4,7 @@ use Rattle.std.specs.List.{AllByRecursion}
 use Rattle.ev_graph.specs.declared.events.TrapKind.TheVariants.{Invalid, BadAccess}
 use Rattle.x64_syntax.specs.declared.instr.Instr.{Instr}
 use Rattle.x64_syntax.specs.declared.instr.Instr.TheVariants as instr
+use Rattle.x64_syntax.specs.declared.placed.Flow.{Flow}
 use Rattle.x64_syntax.specs.declared.placed.Placed.{Placed}
 use Rattle.limm_ir.specs.declared.block.IrEnd.{IrEnd}
 use Rattle.limm_ir.specs.declared.block.IrEnd.TheVariants as ends
@@ -19,7 +20,7 @@ use Rattle.straight_line.specs.Ending.{EndsLine}
 
 each_liftable : (line : List Placed) → AllByRecursion IsTranslated line → AllByRecursion IsLiftable line
 each_liftable [] all = tt
-each_liftable (p ∷ ps) all = (record { formed = all.0.formed; built = all.0.built }, each_liftable ps all.1)
+each_liftable (p ∷ ps) all = (record { formed = all.0.formed; built = all.0.built; plain = all.0.plain }, each_liftable ps all.1)
 
 follow_stands : (at : ℕ) (line : List Placed) → StandFrom at line → Follow line
 follow_stands at [] stands = tt
@@ -65,14 +66,14 @@ LineEnd end = ⊥
 not_access : Invalid ≢ BadAccess
 not_access e = absurd (cc)
 
-instr_ends : (i : Instr) (a temps : ℕ) → ends_line i ≡ true → LineEnd (instr_end i a temps)
-instr_ends instr.Ret a temps e = tt
-instr_ends instr.Ud2 a temps e = not_access
-instr_ends i a temps e = absurd (cc)
+instr_ends : (i : Instr) (f : Flow) (a temps : ℕ) → ends_line i ≡ true → LineEnd (instr_end i f a temps)
+instr_ends instr.Ret f a temps e = tt
+instr_ends instr.Ud2 f a temps e = not_access
+instr_ends i f a temps e = absurd (cc)
 
 line_ends : (line : List Placed) (temps : ℕ) → EndsLast line → LineEnd (end_from temps line)
 line_ends [] temps ends = elim ends [ ]
-line_ends (p ∷ []) temps ends = instr_ends p.instr (after p) temps ends
+line_ends (p ∷ []) temps ends = instr_ends p.instr p.flow (after p) temps ends
 line_ends (p ∷ q ∷ ps) temps ends = line_ends (q ∷ ps) (temps + 256) ends.1
 
 renamed_ends : (end : IrEnd) (g : ℕ → XReg) → LineEnd end → EndsLine (renamed_end g (selected_end end))

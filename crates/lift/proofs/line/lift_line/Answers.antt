@@ -1,19 +1,9 @@
-use Rattle.std.proofs.Common.{sym, subst}
-use Rattle.lift.specs.Block.{AreStepsFrom}
-use Rattle.lift.proofs.Lines.{line_means, line_selectable}
-use Rattle.lift.proofs.Selectable.{block_few, block_unlocked}
+use Rattle.std.proofs.Common.{arith}
+use Rattle.lift.proofs.Lines.{line_lifted, all_words}
 use Rattle.lift.proofs.line.lift_line.Goals as goal
 
-pub returns-clause-meaning : goal.returns-clause-meaning
-returns-clause-meaning c =
-    line_means c.args.placed.now c.of.result c.line_end.result c.requires (subst (AreStepsFrom 0 c.args.placed.now) (sym c.of.ensures) c.in_ok-steps.ensures) c.line_end.ensures
+pub lift_placed-requires : goal.lift_placed-requires
+lift_placed-requires c = line_lifted c.args.placed.now c.requires
 
 pub returns-clause-few : goal.returns-clause-few
-returns-clause-few c = block_few c.args.placed.now 0 c.of.result (subst (AreStepsFrom 0 c.args.placed.now) (sym c.of.ensures) c.in_ok-steps.ensures)
-
-pub returns-clause-selectable : goal.returns-clause-selectable
-returns-clause-selectable c =
-    line_selectable c.args.placed.now c.of.result c.line_end.result c.requires (subst (AreStepsFrom 0 c.args.placed.now) (sym c.of.ensures) c.in_ok-steps.ensures) c.line_end.ensures
-
-pub returns-clause-unlocked : goal.returns-clause-unlocked
-returns-clause-unlocked c = block_unlocked c.args.placed.now 0 c.of.result (subst (AreStepsFrom 0 c.args.placed.now) (sym c.of.ensures) c.in_ok-steps.ensures)
+returns-clause-few c = omega (arith, c.in_ok-block.ensures.few, all_words c.args.placed.now)

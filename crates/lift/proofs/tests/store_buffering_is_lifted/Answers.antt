@@ -16,16 +16,16 @@ lift_line-requires g c = record {
   some = omega arith;
   few = omega arith;
   each = (
-    record { formed = inr (inr (whole _ 7 (omega arith), omega arith)); built = refl },
+    record { formed = inr (inr (whole _ 7 (omega arith), omega arith)); built = refl; plain = refl },
     (
-      record { formed = inr (inr (whole _ 6 (omega arith), omega arith)); built = refl },
+      record { formed = inr (inr (whole _ 6 (omega arith), omega arith)); built = refl; plain = refl },
       (
-        record { formed = inr (inr (whole _ 0 (omega arith), omega arith)); built = refl },
+        record { formed = inr (inr (whole _ 0 (omega arith), omega arith)); built = refl; plain = refl },
         (
-          record { formed = inl (held 7 (omega arith), whole _ 0 (omega arith)); built = refl },
+          record { formed = inl (held 7 (omega arith), whole _ 0 (omega arith)); built = refl; plain = refl },
           (
-            record { formed = inr (inl (whole _ 0 (omega arith), held 6 (omega arith))); built = refl },
-            (record { formed = tt; built = refl }, tt),
+            record { formed = inr (inl (whole _ 0 (omega arith), held 6 (omega arith))); built = refl; plain = refl },
+            (record { formed = tt; built = refl; plain = refl }, tt),
           ),
         ),
       ),

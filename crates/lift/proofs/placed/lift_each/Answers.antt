@@ -1,7 +1,7 @@
 use Rattle.std.proofs.Common.{◌∙◌, ◌++◌, ap, arith}
 use Rattle.lift_alu.specs.Meant.{AreStepsOf}
 use Rattle.lift.proofs.Selectable.{steps_next}
-use Rattle.lift.proofs.line.lift_each.Goals as goal
+use Rattle.lift.proofs.placed.lift_each.Goals as goal
 
 pub loop-one-preserved : goal.loop-one-preserved
 loop-one-preserved c =

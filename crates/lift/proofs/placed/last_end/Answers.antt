@@ -1,7 +1,7 @@
 use Rattle.std.proofs.Common.{◌≡◌, ◌+◌, ◌*◌, ◌-◌, ◌∙◌, sym, ap, arith, suc, length}
 use Rattle.lift_alu.specs.Meant.{end_of}
 use Rattle.lift.proofs.Selectable.{ends_as_last}
-use Rattle.lift.proofs.line.line_end.Goals as goal
+use Rattle.lift.proofs.placed.last_end.Goals as goal
 
 pub returns-in-Some : goal.returns-in-Some
 returns-in-Some c =
