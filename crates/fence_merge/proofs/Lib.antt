@@ -1,0 +1,7 @@
+mod Views
+mod Unfenced
+mod Counted
+mod Planned
+mod Meaning
+mod Barriers
+mod Followed
