@@ -26,12 +26,12 @@ view-fence [] f is = refl
 view-fence (true ∷ turns) f is = refl
 view-fence (false ∷ turns) f is = refl
 
-view-input : (turns : List Bool) (t : Transfer) (is : List Item) → shared_view turns (items.Input t ∷ is) ≡ shared_view turns is
+pub view-input : (turns : List Bool) (t : Transfer) (is : List Item) → shared_view turns (items.Input t ∷ is) ≡ shared_view turns is
 view-input [] t is = refl
 view-input (true ∷ turns) t is = refl
 view-input (false ∷ turns) t is = refl
 
-view-output : (turns : List Bool) (t : Transfer) (is : List Item) → shared_view turns (items.Output t ∷ is) ≡ shared_view turns is
+pub view-output : (turns : List Bool) (t : Transfer) (is : List Item) → shared_view turns (items.Output t ∷ is) ≡ shared_view turns is
 view-output [] t is = refl
 view-output (true ∷ turns) t is = refl
 view-output (false ∷ turns) t is = refl
@@ -54,7 +54,7 @@ view-barriers turns [] is = refl
 view-barriers turns (kind ∷ kinds) is = view-barrier turns kind (map barrier_item kinds ++ is) ∙ ap (λ l. barrier_item kind ∷ l) (view-barriers turns kinds is)
 
 -- what gaps give is seen
-view-given : (turns : List Bool) (gs : List Gap) (is : List Item) → shared_view turns (first_given gs ++ is) ≡ first_given gs ++ shared_view turns is
+pub view-given : (turns : List Bool) (gs : List Gap) (is : List Item) → shared_view turns (first_given gs ++ is) ≡ first_given gs ++ shared_view turns is
 view-given turns [] is = refl
 view-given turns (g ∷ gs) is = view-barriers turns (fences_of g) is
 
@@ -137,7 +137,7 @@ module _ (private : Slot → Bool) where
   begins_not false true x y starts_is = refl
   begins_not false false x y starts_is = cc
 
-  turn_dressed : {is : List Item} → IsTurn private is → (gs : List Gap) (from : List Item) → starts_with_locked_write from ≡ false
+  pub turn_dressed : {is : List Item} → IsTurn private is → (gs : List Gap) (from : List Item) → starts_with_locked_write from ≡ false
       → dressed private gs (is ++ from) ≡ is ++ (first_given gs ++ dressed private (later_gaps gs) from)
   turn_dressed (one {a = a} first) gs from starts =
       begins (is_private private a) (starts_with_locked_write from) (items.Access a ∷ (first_given gs ++ dressed private (later_gaps gs) from)) (items.Access a ∷ dressed private gs from) first.shared starts

@@ -24,12 +24,12 @@ use Rattle.limm_ir.specs.declared.step.IrFence.TheVariants.{Frm, Fww, Fsc}
 use Rattle.limm_ir.specs.declared.step.IrStep.{IrStep}
 use Rattle.limm_ir.specs.declared.step.IrStep.TheVariants as steps
 use Rattle.fence_place.specs.Marked.{marked}
-use Rattle.fence_plan.specs.Gaps.{fence_if, fences_of}
+use Rattle.fence_plan.specs.Gaps.{gaps, fence_if, fences_of}
 use Rattle.fence_plan.specs.Planned.{barrier_item, given, first_given, later_gaps, IsFence}
 use Rattle.fence_plan.specs.declared.gap.Gap.{Gap}
-use Rattle.fence_merge.specs.Roles.{unfenced}
-use Rattle.fence_merge.specs.Merged.{gap_steps, first_steps, woven}
-use Rattle.fence_merge.specs.Follows.{starts_with_locked_write, dressed, IsAtState, FollowsGaps, StepsFollow}
+use Rattle.fence_merge.specs.Roles.{stations, unfenced}
+use Rattle.fence_merge.specs.Merged.{gap_steps, first_steps, woven, merged}
+use Rattle.fence_merge.specs.Follows.{starts_with_locked_write, dressed, IsAtState, FollowsGaps, FollowsPlanOf}
 use Rattle.fence_merge.proofs.Barriers.{barriers_fences, given_fences, quiet_starts, turn_starts, Owed, quiet_owed, turn_owed, pays_owed}
 use Rattle.fence_merge.proofs.Counted.{fence_list, gap_fences, as_steps, gap_steps-are}
 use Rattle.fence_merge.proofs.Planned.{woven-slot, woven-other, kept-slot, kept-other}
@@ -188,7 +188,7 @@ module _ (private : List Slot) where
     missing = first_given gs;
     fences = given_fences gs;
     barriers = subst (λ l. Owed (marked private) [] gs l l (first_given gs)) (append-nil is)
-    (turn_owed (marked private) gs [] [] (first_given gs) turn refl (append-nil (first_given gs)));
+        (turn_owed (marked private) gs [] [] (first_given gs) turn refl (append-nil (first_given gs)));
     whole = λ at. absurd (never at);
   }
 
@@ -317,10 +317,10 @@ module _ (private : List Slot) where
             (quiet_step x is gs (unfenced xs) (woven private xs gs) s (rest gs) made stop n
             (subst (λ l. Path (ir_steps step_cost may l s) made stop n) (woven-other private is xs gs) path))
 
-  -- so steps into which gaps are woven follow them
-  pub steps_follow : (xs ys : List IrStep) (gs : List Gap) → ys ≡ woven private xs gs → StepsFollow private gs xs ys
-  steps_follow xs ys gs same may s made stop n path =
-      let f = woven_follow may xs gs s made stop n (subst (λ l. Path (ir_steps step_cost may l s) made stop n) same path) in record {
+  -- so merged steps follow the plan
+  pub steps_follow : (xs ys : List IrStep) → ys ≡ merged private xs → FollowsPlanOf private xs ys
+  steps_follow xs ys same may s made stop n path =
+      let f = woven_follow may xs (gaps (stations private xs)) s made stop n (subst (λ l. Path (ir_steps step_cost may l s) made stop n) same path) in record {
         from = f.from;
         begun = f.begun;
         path = f.path;

@@ -1,3 +1,4 @@
+pub mod CallerLemmas
 mod Views
 mod Unfenced
 mod Counted
@@ -5,3 +6,4 @@ mod Planned
 mod Meaning
 mod Barriers
 mod Followed
+mod Dressed

@@ -14,20 +14,21 @@ use Rattle.limm_ir.specs.Costs.{step_cost, no_cost}
 use Rattle.limm_ir.specs.Steps.{IrState, ir_steps}
 use Rattle.limm_ir.specs.declared.step.IrStep.{IrStep}
 use Rattle.fence_place.specs.Marked.{marked}
+use Rattle.fence_plan.specs.Gaps.{gaps}
 use Rattle.fence_plan.specs.Planned.{first_given, later_gaps, shared_view, IsFence}
 use Rattle.fence_plan.specs.Private.{is_private, privacy}
 use Rattle.fence_plan.specs.declared.gap.Gap.{Gap}
-use Rattle.fence_merge.specs.Roles.{unfenced}
+use Rattle.fence_merge.specs.Roles.{stations, unfenced}
 
 abbrev pub is_write : AccessKind → Bool
 is_write Read = false
 is_write Write = true
 
--- whether the first item is the write of a locked pair
+-- whether the first item that is no fence is the write of a locked pair
 abbrev pub starts_with_locked_write : List Item → Bool
 starts_with_locked_write [] = false
 starts_with_locked_write (items.Access a ∷ is) = a.locked && is_write a.kind
-starts_with_locked_write (items.Fence f ∷ is) = false
+starts_with_locked_write (items.Fence f ∷ is) = starts_with_locked_write is
 starts_with_locked_write (items.Input t ∷ is) = false
 starts_with_locked_write (items.Output t ∷ is) = false
 
@@ -64,7 +65,8 @@ pub record FollowsGaps {S : Type 0} (private : Slot → Bool) (gs : List Gap) (s
       first_given gs ++ shared_view (privacy private from) (dressed private (later_gaps gs) from) ≡ shared_view (privacy private from) (lowered made) ++ missing
   pub whole : IsAtState stop → missing ≡ []
 
--- each path of steps follows the plan, with other steps, which have no fences, as its source
-abbrev pub StepsFollow : (private : List Slot) → List Gap → (xs ys : List IrStep) → Type 0
-StepsFollow private gs xs ys = (may : Permission) (s : IrState) (made : List Item) (stop : Point (Next IrState)) (n : ℕ)
-    → Path (ir_steps step_cost may ys s) made stop n → FollowsGaps (marked private) gs (ir_steps no_cost may (unfenced xs) s) made stop
+-- each path of the second steps follows the plan of the first, with these, but for their fences, as the source
+abbrev pub FollowsPlanOf : (private : List Slot) → (xs ys : List IrStep) → Type 0
+FollowsPlanOf private xs ys = (may : Permission) (s : IrState) (made : List Item) (stop : Point (Next IrState)) (n : ℕ)
+    → Path (ir_steps step_cost may ys s) made stop n
+    → FollowsGaps (marked private) (gaps (stations private xs)) (ir_steps no_cost may (unfenced xs) s) made stop

@@ -1,5 +1,5 @@
 -- What the steps of a block are to the plan of fences, and which fences stand between them.
-use Rattle.std.specs.Prelude.{Bool, true, false, List, [], ◌∷◌, ◌++◌}
+use Rattle.std.specs.Prelude.{◌≡◌, Bool, true, false, List, [], ◌∷◌, ◌++◌, map}
 use Rattle.std.specs.List.{flat_map}
 use Rattle.ev_graph.specs.declared.events.FenceKind.{FenceKind}
 use Rattle.x64_syntax.specs.declared.slots.Slot.{Slot}
@@ -11,7 +11,7 @@ use Rattle.limm_ir.specs.declared.step.IrFence.TheVariants.{Frm, Fww, Fsc}
 use Rattle.limm_ir.specs.declared.step.IrStep.{IrStep}
 use Rattle.limm_ir.specs.declared.step.IrStep.TheVariants as steps
 use Rattle.fence_place.specs.Marked.{marked}
-use Rattle.fence_plan.specs.Gaps.{Station, Shared, Strong}
+use Rattle.fence_plan.specs.Gaps.{Station, Shared, Strong, gaps, fences_of}
 use Rattle.fence_merge.specs.declared.role.Role.{Role}
 use Rattle.fence_merge.specs.declared.role.Role.TheVariants.{Boundary, Fence, Other}
 
@@ -66,3 +66,7 @@ behind_role Other others = others
 abbrev pub between : (private : List Slot) → List IrStep → List (List FenceKind)
 between private [] = [] ∷ []
 between private (x ∷ xs) = behind_role (role private x) (between private xs)
+
+-- the fences between the second steps are just those of the plan of the first
+abbrev pub HasPlannedFences : (private : List Slot) → (xs ys : List IrStep) → Type 0
+HasPlannedFences private xs ys = between private ys ≡ map fences_of (gaps (stations private xs))

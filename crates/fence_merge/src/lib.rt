@@ -5,5 +5,7 @@
 
 mod merging;
 mod role;
+#[cfg(test)]
+mod tests;
 
 pub use merging::merge;

@@ -1,10 +1,10 @@
-ghost use Rattle.std.specs.Prelude.{◌≡◌, ◌≤◌, ◌++◌, ◌∷◌, List as Sequence, map, IfOk, OnOk};
-ghost use Rattle.fence_merge.specs.Follows.{StepsFollow};
+ghost use Rattle.std.specs.Prelude.{◌≡◌, ◌≤◌, ◌++◌, ◌∷◌, List as Sequence, IfOk, OnOk};
+ghost use Rattle.fence_merge.specs.Follows.{FollowsPlanOf};
 ghost use Rattle.fence_merge.specs.Merged.{gap_steps, merged, step_if, woven};
-ghost use Rattle.fence_merge.specs.Roles.{between, stations, unfenced};
+ghost use Rattle.fence_merge.specs.Roles.{HasPlannedFences, stations, unfenced};
 ghost use Rattle.fence_place.specs.Fenced.{IsFenced, KeepsPlaced};
 ghost use Rattle.fence_place.specs.Marked.{IsSorted};
-ghost use Rattle.fence_plan.specs.Gaps.{fences_of, gap, gaps, gaps_from};
+ghost use Rattle.fence_plan.specs.Gaps.{gap, gaps_from};
 ghost use Rattle.limm_ir.specs.Conditions.{IsWellMade, IsSelectable};
 ghost use Rattle.limm_ir.specs.Costs.{cost_of, step_cost, fenced_cost};
 
@@ -22,12 +22,12 @@ pub fn merge(alloc: Global, block: IrBlock, private: &Marks) -> Result<IrBlock, 
     ensures first { IfOk result (λ b. b.first ≡ block.first) }
     ensures end { IfOk result (λ b. b.end ≡ block.end) }
     ensures others { IfOk result (λ b. unfenced b.steps ≡ unfenced block.steps) }
-    ensures planned { IfOk result (λ b. between private.now.slots b.steps ≡ map fences_of (gaps (stations private.now.slots block.steps))) }
+    ensures planned { IfOk result (λ b. HasPlannedFences private.now.slots block.steps b.steps) }
     ensures meaning { IfOk result (λ b. (xs : Sequence IrStep) → IsFenced private.now.slots xs block.steps → KeepsPlaced xs b.steps) }
     ensures few { IfOk result (λ b. (xs : Sequence IrStep) → IsFenced private.now.slots xs block.steps → cost_of step_cost b.steps ≤ cost_of fenced_cost xs) }
     ensures well { IsWellMade block.steps block.end → IfOk result (λ b. IsWellMade b.steps b.end) }
     ensures selectable { IsSelectable block.steps block.end → IfOk result (λ b. IsSelectable b.steps b.end) }
-    ensures follows { IfOk result (λ b. (xs : Sequence IrStep) → IsFenced private.now.slots xs block.steps → StepsFollow private.now.slots (gaps (stations private.now.slots xs)) xs b.steps) }
+    ensures follows { IfOk result (λ b. (xs : Sequence IrStep) → IsFenced private.now.slots xs block.steps → FollowsPlanOf private.now.slots xs b.steps) }
 {
     let steps = merge_steps(alloc, block.steps.as_slice(), private)?;
     Ok(IrBlock {
@@ -65,11 +65,9 @@ struct Merging {
 impl Merging {
     fn push(&mut self, step: IrStep, private: &Marks) -> Result<(), NoMemory>
         requires { IsSorted private.now.slots }
-        ensures {
-            OnOk result ((xs : Sequence IrStep) →
-                self.new.made.items ++ woven private.now.slots xs (gaps_from self.new.before self.new.fenced (stations private.now.slots xs))
-                ≡ self.old.made.items ++ woven private.now.slots (step ∷ xs) (gaps_from self.old.before self.old.fenced (stations private.now.slots (step ∷ xs))))
-        }
+        ensures { OnOk result ((xs : Sequence IrStep) →
+            self.new.made.items ++ woven private.now.slots xs (gaps_from self.new.before self.new.fenced (stations private.now.slots xs))
+            ≡ self.old.made.items ++ woven private.now.slots (step ∷ xs) (gaps_from self.old.before self.old.fenced (stations private.now.slots (step ∷ xs)))) }
     {
         match role_of(&step, private) {
             Role::Boundary(kind) => {

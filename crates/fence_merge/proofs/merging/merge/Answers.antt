@@ -51,4 +51,4 @@ pub returns-clause-follows : goal.returns-clause-follows
 returns-clause-follows c = λ xs placed.
     let private = c.args.private.now.slots in
     let made = c.of.ensures ∙ c.in_ok-steps.ensures ∙ ap (merged private) c.as_slice.ensures in
-    steps_follow private xs c.of.result (gaps (stations private xs)) (made ∙ merged_placed private xs c.args.block.steps placed)
+    steps_follow private xs c.of.result (made ∙ merged_placed private xs c.args.block.steps placed)

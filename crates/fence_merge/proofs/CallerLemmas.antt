@@ -1,0 +1,11 @@
+-- What callers cite, by the goal that it serves. Each lemma's line of meaning stands where it is proved. Declares nothing.
+
+-- placed fences change no gap of a block's plan
+pub use Rattle.fence_merge.proofs.Planned.{placed_gaps}
+-- items with the fences of gaps, one part behind the other
+pub use Rattle.fence_merge.proofs.Dressed.{left_gaps, dressed-append}
+-- runs with the same accesses in the same places are seen alike with the fences of gaps
+pub use Rattle.fence_merge.proofs.Dressed.{IsNoBarrier, same_privacy, same_dressed}
+-- the tree that gives the fences of gaps has the paths of the tree, with these fences
+pub use Rattle.fence_merge.proofs.Views.{IsFirst, IsSecond, IsTurn, one, pair}
+pub use Rattle.fence_merge.proofs.Dressed.{IsCalm, MakesSlots, slots_start, stop_with, given_path}
