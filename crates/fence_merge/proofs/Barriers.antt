@@ -72,6 +72,13 @@ module _ (private : Slot → Bool) where
   abbrev pub Seen : (from is : List Item) → List Item
   Seen from is = shared_view (privacy private from) is
 
+  -- an access and dressed items, where a gap begins between and where none does
+  abbrev pub with_gap : List Gap → Access → List Item → List Item
+  with_gap gs a is = items.Access a ∷ (first_given gs ++ dressed private (later_gaps gs) is)
+
+  abbrev pub without_gap : List Gap → Access → List Item → List Item
+  without_gap gs a is = items.Access a ∷ dressed private gs is
+
   -- quiet items are not seen, and no gap begins behind them
   quiet_seen : (is from l : List Item) → AllByRecursion (IsQuiet private) is → Seen (is ++ from) (is ++ l) ≡ Seen from l
   quiet_seen [] from l quiet = refl
@@ -91,7 +98,7 @@ module _ (private : Slot → Bool) where
   quiet_dressed : (gs : List Gap) (is from : List Item) → AllByRecursion (IsQuiet private) is → dressed private gs (is ++ from) ≡ is ++ dressed private gs from
   quiet_dressed gs [] from quiet = refl
   quiet_dressed gs (items.Access a ∷ is) from quiet =
-      ap (λ p. if not p && not (starts_with_locked_write (is ++ from)) then items.Access a ∷ (first_given gs ++ dressed private (later_gaps gs) (is ++ from)) else items.Access a ∷ dressed private gs (is ++ from)) quiet.0
+      ap (λ p. if not p && not (starts_with_locked_write (is ++ from)) then with_gap gs a (is ++ from) else without_gap gs a (is ++ from)) quiet.0
       ∙ ap (λ l. items.Access a ∷ l) (quiet_dressed gs is from quiet.1)
   quiet_dressed gs (items.Fence f ∷ is) from quiet = absurd quiet.0
   quiet_dressed gs (items.Input t ∷ is) from quiet = ap (λ l. items.Input t ∷ l) (quiet_dressed gs is from quiet.1)
@@ -140,19 +147,20 @@ module _ (private : Slot → Bool) where
   pub turn_dressed : {is : List Item} → IsTurn private is → (gs : List Gap) (from : List Item) → starts_with_locked_write from ≡ false
       → dressed private gs (is ++ from) ≡ is ++ (first_given gs ++ dressed private (later_gaps gs) from)
   turn_dressed (one {a = a} first) gs from starts =
-      begins (is_private private a) (starts_with_locked_write from) (items.Access a ∷ (first_given gs ++ dressed private (later_gaps gs) from)) (items.Access a ∷ dressed private gs from) first.shared starts
+      begins (is_private private a) (starts_with_locked_write from) (with_gap gs a from) (without_gap gs a from) first.shared starts
   turn_dressed (pair {a = a} {b = b} first second) gs from starts =
       let behind = items.Access b ∷ from in
-      begins_not (is_private private a) (starts_with_locked_write behind) (items.Access a ∷ (first_given gs ++ dressed private (later_gaps gs) behind)) (items.Access a ∷ dressed private gs behind) second.second
+      begins_not (is_private private a) (starts_with_locked_write behind) (with_gap gs a behind) (without_gap gs a behind) second.second
       ∙ ap (λ l. items.Access a ∷ l)
-      (begins (is_private private b) (starts_with_locked_write from) (items.Access b ∷ (first_given gs ++ dressed private (later_gaps gs) from)) (items.Access b ∷ dressed private gs from) second.shared starts)
+      (begins (is_private private b) (starts_with_locked_write from) (with_gap gs b from) (without_gap gs b from) second.shared starts)
 
   -- the barriers of two runs, where the first owes some in front
   abbrev pub Owed : (owed : List Item) → List Gap → (from made missing : List Item) → Type 0
   Owed owed gs from made missing = owed ++ Seen from (dressed private gs from) ≡ Seen from (lowered made) ++ missing
 
   -- with quiet items in front of both
-  pub quiet_owed : (owed : List Item) (gs : List Gap) (is from made missing : List Item) → AllByRecursion (IsQuiet private) is → Owed owed gs from made missing → Owed owed gs (is ++ from) (is ++ made) missing
+  pub quiet_owed : (owed : List Item) (gs : List Gap) (is from made missing : List Item) → AllByRecursion (IsQuiet private) is → Owed owed gs from made missing
+      → Owed owed gs (is ++ from) (is ++ made) missing
   quiet_owed owed gs is from made missing quiet same =
       ap (λ l. owed ++ Seen (is ++ from) l) (quiet_dressed gs is from quiet)
       ∙ ap (λ l. owed ++ l) (quiet_seen is from (dressed private gs from) quiet)

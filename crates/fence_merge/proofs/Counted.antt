@@ -113,7 +113,8 @@ module _ (private : List Slot) where
           let later = woven private xs (gaps_from (Some kind) false (stations private xs)) in
           let same : woven private (x ∷ xs) (gaps_from before full (stations private (x ∷ xs))) ≡ gap_steps g ++ x ∷ later =
           ap (λ ss. woven private (x ∷ xs) (gaps_from before full ss)) (stations-slot private is xs) ∙ woven-slot private is xs (gaps_from before full (Shared kind ∷ stations private xs)) in
-          omega (arith, gap_paid before full (Some kind), ap (cost_of step_cost) (gap_steps-are g), fences_cost (gap_fences g), cost_of-append step_cost (gap_steps g) (x ∷ later), ap (cost_of step_cost) same, rest (Some kind) false, is.costs)
+          let fences = cost_of-append step_cost (gap_steps g) (x ∷ later) in
+          omega (arith, gap_paid before full (Some kind), ap (cost_of step_cost) (gap_steps-are g), fences_cost (gap_fences g), fences, ap (cost_of step_cost) same, rest (Some kind) false, is.costs)
 
       other : {x : IrStep} → IsOther private x → ((before : Option SlotKind) (full : Bool) → Few xs before full) → Few (x ∷ xs) before full
       other {x} is rest =

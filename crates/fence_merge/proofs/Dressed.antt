@@ -15,7 +15,7 @@ use Rattle.fence_plan.specs.Planned.{first_given, later_gaps, is_barrier, with_b
 use Rattle.fence_plan.specs.Private.{is_private, has_shared, privacy}
 use Rattle.fence_plan.specs.declared.gap.Gap.{Gap}
 use Rattle.fence_merge.specs.Follows.{starts_with_locked_write, begins_gap, dressed}
-use Rattle.fence_merge.proofs.Barriers.{Seen, view-fence, view-given, view-input, view-output, turn_starts, turn_dressed}
+use Rattle.fence_merge.proofs.Barriers.{with_gap, without_gap, view-fence, view-given, view-input, view-output, turn_starts, turn_dressed}
 use Rattle.fence_merge.proofs.Views.{IsFirst, IsTurn, one, pair}
 
 -- a fence that is no barrier of Arm
@@ -26,7 +26,8 @@ IsNoBarrier (items.Input t) = Unit {0}
 IsNoBarrier (items.Output t) = Unit {0}
 
 -- behind an access, whatever its turn is
-view-access : (turns : List Bool) (a : Access) (is js : List Item) → ((turns : List Bool) → shared_view turns is ≡ shared_view turns js) → shared_view turns (items.Access a ∷ is) ≡ shared_view turns (items.Access a ∷ js)
+view-access : (turns : List Bool) (a : Access) (is js : List Item) → ((turns : List Bool) → shared_view turns is ≡ shared_view turns js)
+    → shared_view turns (items.Access a ∷ is) ≡ shared_view turns (items.Access a ∷ js)
 view-access [] a is js same = ap (λ l. items.Access (record a { place = 0 }) ∷ l) (same [])
 view-access (true ∷ turns) a is js same = same turns
 view-access (false ∷ turns) a is js same = ap (λ l. items.Access (record a { place = 0 }) ∷ l) (same turns)
@@ -64,10 +65,11 @@ module _ (private : Slot → Bool) where
       by (begins_gap private a (xs ++ ys)) (begins_gap private a xs) (ap (λ s. not (is_private private a) && not s) (starts-append xs ys none)) (λ gs. dressed-append gs xs ys none)
     where
       by : (b c : Bool) → b ≡ c → ((gs : List Gap) → dressed private gs (xs ++ ys) ≡ dressed private gs xs ++ dressed private (left_gaps gs xs) ys)
-          → (if b then items.Access a ∷ (first_given gs ++ dressed private (later_gaps gs) (xs ++ ys)) else items.Access a ∷ dressed private gs (xs ++ ys))
-          ≡ (if c then items.Access a ∷ (first_given gs ++ dressed private (later_gaps gs) xs) else items.Access a ∷ dressed private gs xs) ++ dressed private (left_gaps (if c then later_gaps gs else gs) xs) ys
+          → (if b then with_gap private gs a (xs ++ ys) else without_gap private gs a (xs ++ ys))
+          ≡ (if c then with_gap private gs a xs else without_gap private gs a xs) ++ dressed private (left_gaps (if c then later_gaps gs else gs) xs) ys
       by true true same rest =
-          ap (λ l. items.Access a ∷ l) (ap (λ l. first_given gs ++ l) (rest (later_gaps gs)) ∙ sym (append_assoc (first_given gs) (dressed private (later_gaps gs) xs) (dressed private (left_gaps (later_gaps gs) xs) ys)))
+          ap (λ l. items.Access a ∷ l) (ap (λ l. first_given gs ++ l) (rest (later_gaps gs))
+          ∙ sym (append_assoc (first_given gs) (dressed private (later_gaps gs) xs) (dressed private (left_gaps (later_gaps gs) xs) ys)))
       by false false same rest = ap (λ l. items.Access a ∷ l) (rest gs)
       by true false same rest = cc
       by false true same rest = cc
@@ -89,17 +91,20 @@ module _ (private : Slot → Bool) where
       by (begins_gap private a (placed xs)) (begins_gap private a xs) (ap (λ s. not (is_private private a) && not s) (starts-placed xs)) (λ turns gs. view-placed turns gs xs none.1)
     where
       by : (b c : Bool) → b ≡ c → ((turns : List Bool) (gs : List Gap) → shared_view turns (dressed private gs (placed xs)) ≡ shared_view turns (dressed private gs xs))
-          → shared_view turns (if b then items.Access a ∷ (first_given gs ++ dressed private (later_gaps gs) (placed xs)) else items.Access a ∷ dressed private gs (placed xs))
-          ≡ shared_view turns (if c then items.Access a ∷ (first_given gs ++ dressed private (later_gaps gs) xs) else items.Access a ∷ dressed private gs xs)
+          → shared_view turns (if b then with_gap private gs a (placed xs) else without_gap private gs a (placed xs))
+          ≡ shared_view turns (if c then with_gap private gs a xs else without_gap private gs a xs)
       by true true same rest =
           view-access turns a (first_given gs ++ dressed private (later_gaps gs) (placed xs)) (first_given gs ++ dressed private (later_gaps gs) xs)
-          (λ turns. view-given turns gs (dressed private (later_gaps gs) (placed xs)) ∙ ap (λ l. first_given gs ++ l) (rest turns (later_gaps gs)) ∙ sym (view-given turns gs (dressed private (later_gaps gs) xs)))
+          (λ turns. view-given turns gs (dressed private (later_gaps gs) (placed xs)) ∙ ap (λ l. first_given gs ++ l) (rest turns (later_gaps gs))
+          ∙ sym (view-given turns gs (dressed private (later_gaps gs) xs)))
       by false false same rest = view-access turns a (dressed private gs (placed xs)) (dressed private gs xs) (λ turns. rest turns gs)
       by true false same rest = cc
       by false true same rest = cc
   view-placed turns gs (items.Fence f ∷ xs) none = view-placed turns gs xs none.1 ∙ sym (view-no_barrier turns f (dressed private gs xs) none.0)
-  view-placed turns gs (items.Input t ∷ xs) none = view-input turns (record t { place = 0 }) (dressed private gs (placed xs)) ∙ view-placed turns gs xs none.1 ∙ sym (view-input turns t (dressed private gs xs))
-  view-placed turns gs (items.Output t ∷ xs) none = view-output turns (record t { place = 0 }) (dressed private gs (placed xs)) ∙ view-placed turns gs xs none.1 ∙ sym (view-output turns t (dressed private gs xs))
+  view-placed turns gs (items.Input t ∷ xs) none =
+      view-input turns (record t { place = 0 }) (dressed private gs (placed xs)) ∙ view-placed turns gs xs none.1 ∙ sym (view-input turns t (dressed private gs xs))
+  view-placed turns gs (items.Output t ∷ xs) none =
+      view-output turns (record t { place = 0 }) (dressed private gs (placed xs)) ∙ view-placed turns gs xs none.1 ∙ sym (view-output turns t (dressed private gs xs))
 
   -- runs with the same accesses in the same places have the same turns, and are seen alike with the fences of gaps
   pub same_privacy : (xs ys : List Item) → placed xs ≡ placed ys → privacy private xs ≡ privacy private ys
@@ -132,7 +137,7 @@ module _ (private : Slot → Bool) where
   calm_dressed : (gs : List Gap) (xs ys : List Item) → AllByRecursion IsCalm xs → dressed private gs (xs ++ ys) ≡ xs ++ dressed private gs ys
   calm_dressed gs [] ys calm = refl
   calm_dressed gs (items.Access a ∷ xs) ys calm =
-      ap (λ p. if not p && not (starts_with_locked_write (xs ++ ys)) then items.Access a ∷ (first_given gs ++ dressed private (later_gaps gs) (xs ++ ys)) else items.Access a ∷ dressed private gs (xs ++ ys)) calm.0.0
+      ap (λ p. if not p && not (starts_with_locked_write (xs ++ ys)) then with_gap private gs a (xs ++ ys) else without_gap private gs a (xs ++ ys)) calm.0.0
       ∙ ap (λ l. items.Access a ∷ l) (calm_dressed gs xs ys calm.1)
   calm_dressed gs (items.Fence f ∷ xs) ys calm = ap (λ l. items.Fence f ∷ l) (calm_dressed gs xs ys calm.1)
   calm_dressed gs (items.Input t ∷ xs) ys calm = ap (λ l. items.Input t ∷ l) (calm_dressed gs xs ys calm.1)
@@ -183,12 +188,13 @@ module _ (private : Slot → Bool) where
       next_with = λ v. with_gaps private (if has_shared private (made v) then later_gaps gs else gs) (next v)
 
       on : (shared : Bool) → has_shared private (made v) ≡ shared → ((gs : List Gap) → (left : List Gap) × Path (with_gaps private gs (next v)) (dressed private gs is) (stop_with left stop) n)
-          → (left : List Gap) × Path (Acts range made_with next_with) ((if shared then made v ++ first_given gs else made v) ++ dressed private (if shared then later_gaps gs else gs) is) (stop_with left stop) n
+          → (left : List Gap) × Path (Acts range made_with next_with) ((if shared then made v ++ first_given gs else made v) ++ dressed private (if shared then later_gaps gs else gs) is)
+          (stop_with left stop) n
       on shared same rest =
           let here = rest (if shared then later_gaps gs else gs) in
-          let path_here = subst (λ b. Path (with_gaps private (if b then later_gaps gs else gs) (next v)) (dressed private (if shared then later_gaps gs else gs) is) (stop_with here.0 stop) n) (sym same) here.1 in
-          (here.0, subst (λ b. Path (Acts range made_with next_with) ((if b then made v ++ first_given gs else made v) ++ dressed private (if shared then later_gaps gs else gs) is) (stop_with here.0 stop) n) same
-          (acts v lt path_here))
+          let later = dressed private (if shared then later_gaps gs else gs) is in
+          let more = subst (λ b. Path (with_gaps private (if b then later_gaps gs else gs) (next v)) later (stop_with here.0 stop) n) (sym same) here.1 in
+          (here.0, subst (λ b. Path (Acts range made_with next_with) ((if b then made v ++ first_given gs else made v) ++ later) (stop_with here.0 stop) n) same (acts v lt more))
 
       by : IsTurn private (made v) ⊎ AllByRecursion IsCalm (made v) → starts_with_locked_write is ≡ false
           → ((gs : List Gap) → (left : List Gap) × Path (with_gaps private gs (next v)) (dressed private gs is) (stop_with left stop) n)

@@ -178,7 +178,8 @@ module _ (private : List Slot) where
     whole = rest.whole;
   }
 
-  turn_end : {t : Tree (Next IrState)} {stop : Point (Next IrState)} {is : List Item} {n : ℕ} → Path t is stop n → (IsAtState stop → ⊥) → IsTurn (marked private) is → (gs : List Gap) → Follow [] gs t is stop
+  turn_end : {t : Tree (Next IrState)} {stop : Point (Next IrState)} {is : List Item} {n : ℕ} → Path t is stop n → (IsAtState stop → ⊥) → IsTurn (marked private) is → (gs : List Gap)
+      → Follow [] gs t is stop
   turn_end {is = is} {n = n} path never turn gs = record {
     from = is;
     begun = n;
@@ -193,7 +194,8 @@ module _ (private : List Slot) where
   }
 
   -- items under another name
-  made_at : {owed : List Item} {gs : List Gap} {source : Tree (Next IrState)} {stop : Point (Next IrState)} (xs ys : List Item) → xs ≡ ys → Follow owed gs source xs stop → Follow owed gs source ys stop
+  made_at : {owed : List Item} {gs : List Gap} {source : Tree (Next IrState)} {stop : Point (Next IrState)} (xs ys : List Item) → xs ≡ ys
+      → Follow owed gs source xs stop → Follow owed gs source ys stop
   made_at {owed} {gs} {source} {stop} xs ys same f = subst (λ l. Follow owed gs source l stop) same f
 
   module _ (may : Permission) where
@@ -213,13 +215,15 @@ module _ (private : List Slot) where
         unpaid : AllByRecursion IsFence all
         unpaid = all_append IsFence (as_barriers (f ∷ fs)) owed (barriers_fences (map fence_of (f ∷ fs))) fences
 
-        by : Follows (as_barriers fs ++ owed) gs source (as_steps fs ++ ys) s → {made : List Item} {stop : Point (Next IrState)} {n : ℕ} → Path (ir_steps step_cost may (as_steps (f ∷ fs) ++ ys) s) made stop n → Follow all gs source made stop
+        by : Follows (as_barriers fs ++ owed) gs source (as_steps fs ++ ys) s
+            → {made : List Item} {stop : Point (Next IrState)} {n : ℕ} → Path (ir_steps step_cost may (as_steps (f ∷ fs) ++ ys) s) made stop n → Follow all gs source made stop
         by later cut = nothing gs cut unpaid (λ at. absurd at)
         by later (begins cut) = nothing gs cut unpaid (λ at. absurd at)
         by later (begins (acts {items = made} {p = stop} {n = n} v lt path)) = pays (fence_of f) (later made stop n path)
 
     -- those of the first gap
-    pay_gap : (gs : List Gap) (source : Tree (Next IrState)) (ys : List IrStep) (s : IrState) → Follows [] (later_gaps gs) source ys s → Follows (first_given gs) (later_gaps gs) source (first_steps gs ++ ys) s
+    pay_gap : (gs : List Gap) (source : Tree (Next IrState)) (ys : List IrStep) (s : IrState) → Follows [] (later_gaps gs) source ys s
+        → Follows (first_given gs) (later_gaps gs) source (first_steps gs ++ ys) s
     pay_gap [] source ys s rest = rest
     pay_gap (g ∷ gs) source ys s rest = λ made stop n path.
         subst (λ d. Follow d gs source made stop) (append-nil (as_barriers (gap_fences g)) ∙ given-are g)
@@ -229,8 +233,12 @@ module _ (private : List Slot) where
     abbrev Source : IrStep → List IrStep → IrState → Tree (Next IrState)
     Source x xs s = ir_step may x s then ir_steps no_cost may xs
 
+    -- the steps behind a step follow the gaps that are left, from each state
+    abbrev Behind : List Gap → (xs ys : List IrStep) → Type 0
+    Behind gs xs ys = (t : IrState) → Follows (first_given gs) (later_gaps gs) (ir_steps no_cost may xs t) ys t
+
     -- a quiet step in front
-    module _ (x : IrStep) (is : IsOther private x) (gs : List Gap) (xs ys : List IrStep) (s : IrState) (rest : (t : IrState) → Follows (first_given gs) (later_gaps gs) (ir_steps no_cost may xs t) ys t) where
+    module _ (x : IrStep) (is : IsOther private x) (gs : List Gap) (xs ys : List IrStep) (s : IrState) (rest : Behind gs xs ys) where
       abbrev Quietly : List Item → Point (Next IrState) → Type 0
       Quietly = Follow (first_given gs) (later_gaps gs) (Source x xs s)
 
@@ -244,9 +252,10 @@ module _ (private : List Slot) where
       quiet_stop : {end : End} {made : List Item} {n : ℕ} → Ticked (step_cost x) (ir_step may x s) made (At (Stops end)) n → Quietly made (At (Stops end))
       quiet_stop (behind path same) = quiet_end (path_stop (ir_steps no_cost may xs) path) (λ at. at) (all_quiet path) (later_gaps gs) (given_fences gs)
 
-      quiet_on : {t : IrState} {items more all : List Item} {stop : Point (Next IrState)} {n m : ℕ} → Ticked (step_cost x) (ir_step may x s) items (At (Goes t)) n → Path (ir_steps step_cost may ys t) more stop m
-          → all ≡ items ++ more → Quietly all stop
-      quiet_on {t} {items} {more} {all} {stop} {m = m} (behind path same) later same_items = made_at (items ++ more) all (sym same_items) (quietly (ir_steps no_cost may xs) path (all_quiet path) (rest t more stop m later))
+      quiet_on : {t : IrState} {items more all : List Item} {stop : Point (Next IrState)} {n m : ℕ} → Ticked (step_cost x) (ir_step may x s) items (At (Goes t)) n
+          → Path (ir_steps step_cost may ys t) more stop m → all ≡ items ++ more → Quietly all stop
+      quiet_on {t} {items} {more} {all} {stop} {m = m} (behind path same) later same_items =
+          made_at (items ++ more) all (sym same_items) (quietly (ir_steps no_cost may xs) path (all_quiet path) (rest t more stop m later))
 
       quiet_split : {made : List Item} {stop : Point (Next IrState)} {n : ℕ} → Split (ticks (step_cost x) (ir_step may x s)) (ir_steps step_cost may ys) made stop n → Quietly made stop
       quiet_split (within path) = quiet_cut (ticked (step_cost x) (ir_step may x s) path)
@@ -257,7 +266,7 @@ module _ (private : List Slot) where
       quiet_step made stop n path = quiet_split (split (ticks (step_cost x) (ir_step may x s)) (ir_steps step_cost may ys) path)
 
     -- a slot in front, with the gaps behind it
-    module _ (x : IrStep) {kind : SlotKind} (is : IsSlot private x kind) (gs : List Gap) (xs ys : List IrStep) (s : IrState) (rest : (t : IrState) → Follows (first_given gs) (later_gaps gs) (ir_steps no_cost may xs t) ys t) where
+    module _ (x : IrStep) {kind : SlotKind} (is : IsSlot private x kind) (gs : List Gap) (xs ys : List IrStep) (s : IrState) (rest : Behind gs xs ys) where
       abbrev InTurn : List Item → Point (Next IrState) → Type 0
       InTurn = Follow [] gs (Source x xs s)
 
@@ -275,10 +284,11 @@ module _ (private : List Slot) where
       goes_turn : {t : IrState} {items more all : List Item} {stop : Point (Next IrState)} {n m : ℕ} → Path (ir_step may x s) items (At (Goes t)) n → Turned (marked private) items (At (Goes t))
           → Path (ir_steps step_cost may ys t) more stop m → all ≡ items ++ more → InTurn all stop
       goes_turn path (not-yet none) later same_items = absurd (none tt)
-      goes_turn {t} {items} {more} {all} {stop} {m = m} path (turned turn) later same_items = made_at (items ++ more) all (sym same_items) (in_turn (ir_steps no_cost may xs) path turn (rest t more stop m later))
+      goes_turn {t} {items} {more} {all} {stop} {m = m} path (turned turn) later same_items =
+          made_at (items ++ more) all (sym same_items) (in_turn (ir_steps no_cost may xs) path turn (rest t more stop m later))
 
-      turn_on : {t : IrState} {items more all : List Item} {stop : Point (Next IrState)} {n m : ℕ} → Ticked (step_cost x) (ir_step may x s) items (At (Goes t)) n → Path (ir_steps step_cost may ys t) more stop m
-          → all ≡ items ++ more → InTurn all stop
+      turn_on : {t : IrState} {items more all : List Item} {stop : Point (Next IrState)} {n m : ℕ} → Ticked (step_cost x) (ir_step may x s) items (At (Goes t)) n
+          → Path (ir_steps step_cost may ys t) more stop m → all ≡ items ++ more → InTurn all stop
       turn_on (behind path same) later same_items = goes_turn path (path_turned (marked private) (is.turns may s) path) later same_items
 
       turn_split : {made : List Item} {stop : Point (Next IrState)} {n : ℕ} → Split (ticks (step_cost x) (ir_step may x s)) (ir_steps step_cost may ys) made stop n → InTurn made stop

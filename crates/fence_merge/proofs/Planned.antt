@@ -151,7 +151,8 @@ module _ (private : List Slot) where
       placed : List IrStep
       placed = flat_map (fenced private) xs
 
-      turn : {x : IrStep} (kind : SlotKind) → IsSlot private x kind → SameGaps xs placed → gaps_from before full (stations private (around kind x ++ placed)) ≡ gap before full (Some kind) ∷ gaps_from (Some kind) false (stations private xs)
+      turn : {x : IrStep} (kind : SlotKind) → IsSlot private x kind → SameGaps xs placed
+          → gaps_from before full (stations private (around kind x ++ placed)) ≡ gap before full (Some kind) ∷ gaps_from (Some kind) false (stations private xs)
       turn {x} Read is rest = ap (gaps_from before full) (stations-slot is (steps.Fence Frm ∷ placed)) ∙ ap (λ l. gap before full (Some Read) ∷ l) (rest (Some Read) false)
       turn {x} Write is rest = ap (gaps_from before full) (stations-slot is placed) ∙ ap (λ l. gap before full (Some Write) ∷ l) (rest (Some Write) false)
       turn {x} Locked is rest =

@@ -180,7 +180,8 @@ module _ (end : IrEnd) where
         behind_is = tail_is x y (unfenced xs) behind same;
       }
       at x kept (b ∷ before) same rest =
-          deeper x (ap (λ l. (l ++ []) ++ before) kept ∙ ap (λ z. z ∷ before) (head_is x b (unfenced xs) (before ++ y ∷ behind) same)) (rest before (tail_is x b (unfenced xs) (before ++ y ∷ behind) same))
+          deeper x (ap (λ l. (l ++ []) ++ before) kept ∙ ap (λ z. z ∷ before) (head_is x b (unfenced xs) (before ++ y ∷ behind) same))
+          (rest before (tail_is x b (unfenced xs) (before ++ y ∷ behind) same))
 
       by : {x : IrStep} → Kept x → (before : List IrStep) → unfenced (x ∷ xs) ≡ before ++ y ∷ behind
           → ((before : List IrStep) → unfenced xs ≡ before ++ y ∷ behind → Place xs before y behind) → Place (x ∷ xs) before y behind

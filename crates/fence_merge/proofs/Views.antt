@@ -156,7 +156,8 @@ module _ (private : List Slot) where
   })
 
   -- a step without accesses
-  plain : (x : IrStep) → role private x ≡ Other → without_fence x ≡ x ∷ [] → fenced private x ≡ x ∷ [] → ((may : Permission) (s : IrState) → AllMakes (IsQuiet (marked private)) (ir_step may x s)) → View x
+  plain : (x : IrStep) → role private x ≡ Other → without_fence x ≡ x ∷ [] → fenced private x ≡ x ∷ []
+      → ((may : Permission) (s : IrState) → AllMakes (IsQuiet (marked private)) (ir_step may x s)) → View x
   plain x same kept placed quiet = a-other (record { role_is = same; kept = kept; placed = placed; quiet = quiet })
 
   pub view : (x : IrStep) → View x
