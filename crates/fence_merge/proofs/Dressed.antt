@@ -5,10 +5,11 @@ use Rattle.std.specs.List.{AllByRecursion}
 use Rattle.ev_graph.specs.declared.events.Access.{Access}
 use Rattle.ev_graph.specs.declared.events.FenceItem.{FenceItem}
 use Rattle.ev_graph.specs.declared.events.FenceKind.{FenceKind}
+use Rattle.ev_graph.specs.declared.events.FenceKind.TheVariants.{Frm, Fww, Fsc, Mfence, DmbLd, DmbSt, DmbFull}
 use Rattle.ev_graph.specs.declared.events.Item.{Item}
 use Rattle.ev_graph.specs.declared.events.Item.TheVariants as items
 use Rattle.behavior.specs.Tree.{Tree, Gives, Begins, Acts, Point, Cut, At, Path, cut, gives, begins, acts, Next, Goes, Stops}
-use Rattle.behavior.specs.Seen.{placed}
+use Rattle.behavior.specs.Seen.{barrier, placed, lowered}
 use Rattle.behavior.proofs.Paths.{path_at}
 use Rattle.x64_syntax.specs.declared.slots.Slot.{Slot}
 use Rattle.fence_plan.specs.Planned.{first_given, later_gaps, is_barrier, with_barrier, shared_view, Planning, with_gaps}
@@ -34,6 +35,36 @@ view-access (false ∷ turns) a is js same = ap (λ l. items.Access (record a { 
 
 view-no_barrier : (turns : List Bool) (f : FenceItem) (is : List Item) → is_barrier f.kind ≡ false → shared_view turns (items.Fence f ∷ is) ≡ shared_view turns is
 view-no_barrier turns f is none = view-fence turns f is ∙ ap (λ b. if b then items.Fence (record { kind = f.kind; place = 0 }) ∷ shared_view turns is else shared_view turns is) none
+
+-- a fence that is a barrier of Arm
+abbrev pub IsBarrier : Item → Type 0
+IsBarrier (items.Access a) = Unit {0}
+IsBarrier (items.Fence f) = is_barrier f.kind ≡ true
+IsBarrier (items.Input t) = Unit {0}
+IsBarrier (items.Output t) = Unit {0}
+
+barrier_stays : (kind : FenceKind) → is_barrier kind ≡ true → barrier kind ≡ kind
+barrier_stays Frm is = cc
+barrier_stays Fww is = cc
+barrier_stays Fsc is = cc
+barrier_stays Mfence is = cc
+barrier_stays DmbLd is = refl
+barrier_stays DmbSt is = refl
+barrier_stays DmbFull is = refl
+
+-- where all fences are barriers, they are seen as they are
+pub view-lowered : (turns : List Bool) (xs : List Item) → AllByRecursion IsBarrier xs → shared_view turns (lowered xs) ≡ shared_view turns xs
+view-lowered turns [] are = refl
+view-lowered [] (items.Access a ∷ xs) are = ap (λ l. items.Access (record a { place = 0 }) ∷ l) (view-lowered [] xs are.1)
+view-lowered (true ∷ turns) (items.Access a ∷ xs) are = view-lowered turns xs are.1
+view-lowered (false ∷ turns) (items.Access a ∷ xs) are = ap (λ l. items.Access (record a { place = 0 }) ∷ l) (view-lowered turns xs are.1)
+view-lowered turns (items.Fence f ∷ xs) are =
+    view-fence turns (record { kind = barrier f.kind; place = 0 }) (lowered xs)
+    ∙ ap (λ kind. with_barrier kind (shared_view turns (lowered xs))) (barrier_stays f.kind are.0)
+    ∙ ap (with_barrier f.kind) (view-lowered turns xs are.1)
+    ∙ sym (view-fence turns f xs)
+view-lowered turns (items.Input t ∷ xs) are = view-input turns (record t { place = 0 }) (lowered xs) ∙ view-lowered turns xs are.1 ∙ sym (view-input turns t xs)
+view-lowered turns (items.Output t ∷ xs) are = view-output turns (record t { place = 0 }) (lowered xs) ∙ view-lowered turns xs are.1 ∙ sym (view-output turns t xs)
 
 starts-append : (xs ys : List Item) → starts_with_locked_write ys ≡ false → starts_with_locked_write (xs ++ ys) ≡ starts_with_locked_write xs
 starts-append [] ys none = none

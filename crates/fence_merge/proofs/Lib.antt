@@ -6,4 +6,5 @@ mod Planned
 mod Meaning
 mod Barriers
 mod Followed
+mod Ended
 mod Dressed
