@@ -1,0 +1,27 @@
+-- The barriers among words.
+use Rattle.std.specs.Prelude.{ℕ, Bool, true, false, List, Option, Some, None, filter, flat_map, map}
+use Rattle.a64_code.specs.declared.instr.XReg.{XReg}
+use Rattle.a64_code.specs.declared.instr.A64.{A64}
+use Rattle.a64_code.specs.declared.instr.A64.TheVariants.{DmbFull, DmbLd, DmbSt}
+use Rattle.a64_code.specs.Words.{word_of}
+use Rattle.a64_code.specs.Decoding.{a64_of}
+use Rattle.a64_block.specs.declared.block.ABlock.{ABlock}
+
+-- the instruction is DMB ISH, DMB ISHLD or DMB ISHST
+abbrev pub is_barrier : A64 XReg → Bool
+is_barrier DmbFull = true
+is_barrier DmbLd = true
+is_barrier DmbSt = true
+is_barrier a = false
+
+-- the word spells one of them
+abbrev pub spells_barrier : ℕ → Bool
+spells_barrier word = is_one (a64_of word)
+  where
+    is_one : Option (A64 XReg) → Bool
+    is_one None = false
+    is_one (Some a) = is_barrier a
+
+-- the barriers of blocks, in order, as words
+abbrev pub barriers_of : List (ABlock XReg) → List ℕ
+barriers_of blocks = flat_map (λ (b : ABlock XReg). map word_of (filter is_barrier b.steps)) blocks
