@@ -35,7 +35,7 @@ module _ {T : Type 0} (step : T → Tree (Next T)) where
   }
 
   -- by one, and then others
-  pub comes_more : {P : Next T → Type 0} {most : ℕ} (t u : T) → step t ≡ Begins (goes u) → Comes most u P → Comes (suc most) t P
+  pub comes_more : {P : Next T → Type 0} {most : ℕ} (t u : T) → step t ≡ Begins (goes u) → Comes most u P → Comes (1 + most) t P
   comes_more t u takes later = record {
     before = suc later.before;
     to = later.to;

@@ -31,7 +31,7 @@ use Rattle.code_layout.specs.Conditions.{LeadsToBlocks}
 use Rattle.code_layout.specs.Search.{Search, Nowhere, Leaf, Fork, finds, search_size, depth, Fits}
 use Rattle.code_layout.specs.Code.{x, jump, halts, return_words, end_words}
 use Rattle.code_layout.proofs.Comes.{Comes, comes_last, comes_wider}
-use Rattle.code_layout.proofs.Words.{Others, moved_on, moved_next, thread, comes_on, comes_jump, jumps_on}
+use Rattle.code_layout.proofs.Moves.{Others, moved_on, moved_next, thread, comes_on, comes_jump, jumps_on}
 use Rattle.code_layout.proofs.Searches.{IsLookedUp, search_comes}
 
 -- where a state goes from a block's end
@@ -84,7 +84,6 @@ module _ (may : Permission) (first : ℕ) (code : List ℕ) (blocks : List (ABlo
   -- a return that was looked up
   found : (b : Bool) (v : ℕ) (s u : AState) → Keeps16 s u → finds t v ≡ b → (next : Next AThread) → IsLookedUp may first code start are.starts_low b v u next
       → Lands (arrives s (or_trap BadReturn (if b then Some v else None))) next
-  unfolding IsLookedUp
   found true v s u same has next (w, goes_to, at, others) =
       subst (λ n. Lands (arrives s (Goes v)) n) (sym goes_to) (both-go (record { known = are.known v has; at = at; same = λ n popped key zero. others n key zero ∙ same n popped key zero }))
   found false v s u same has next stops = subst (λ n. Lands (Stops (Trap BadReturn)) n) (sym stops) both-stop

@@ -1,6 +1,9 @@
 pub mod Matched
 pub mod Comes
-pub mod Words
+pub mod Moves
 pub mod Searches
 pub mod Ends
 pub mod Laid
+pub mod Sizes
+pub mod Placed
+pub mod Trees

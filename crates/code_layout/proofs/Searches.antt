@@ -19,7 +19,7 @@ use Rattle.a64_block.specs.Breaks.{break_of}
 use Rattle.code_layout.specs.Search.{Search, Nowhere, Leaf, Fork, finds, search_size, depth, Fits}
 use Rattle.code_layout.specs.Code.{x, not_equal, lower, jump, compare_words, search_words}
 use Rattle.code_layout.proofs.Comes.{Comes, comes_last, comes_more, comes_wider}
-use Rattle.code_layout.proofs.Words.{Others, others_on, moved_on, moved_next, thread, comes_on, comes_there, comes_jump, jumps_on, compare_on}
+use Rattle.code_layout.proofs.Moves.{Others, others_on, moved_on, moved_next, thread, comes_on, comes_there, comes_jump, jumps_on, compare_on}
 
 -- the parts of words that stand stand
 pub stand_first : (first : ℕ) (code : List ℕ) (at : ℕ) (ws vs : List (A64 XReg)) → StandAt first code at (ws ++ vs) → StandAt first code at ws
@@ -39,21 +39,21 @@ length-search_words start at (Leaf site) = refl
 length-search_words start at (Fork site below above) =
     let one = length-search_words start (at + 7) below in
     let two = length-search_words start (at + 7 + search_size below) above in
-    omega (arith, length-append (search_words start (at + 7) below) (search_words start (at + 7 + search_size below) above), one, two)
+    let all : length (search_words start (at + 7) below ++ search_words start (at + 7 + search_size below) above) ≡ search_size below + search_size above =
+    length-append (search_words start (at + 7) below) (search_words start (at + 7 + search_size below) above) ∙ ap (λ n. n + length (search_words start (at + 7 + search_size below) above)) one ∙ ap (λ n. search_size below + n) two in
+    omega (arith, all)
 
 module _ (may : Permission) (first : ℕ) (code : List ℕ) (start : ℕ → ℕ) (low : (a : ℕ) → first + 4 * start a < 2 ^ 63) where
   -- where a thread comes to that looks an address up, with nothing changed but X17; or how it ends
-  pub IsLookedUp : Bool → (address : ℕ) → AState → Next AThread → Type 0
+  abbrev pub IsLookedUp : Bool → (address : ℕ) → AState → Next AThread → Type 0
   IsLookedUp true address s next = (t : AThread) × (next ≡ Goes t) × (t.at ≡ first + 4 * start address) × Others s t.state
   IsLookedUp false address s next = next ≡ Stops (Trap BadReturn)
 
-  unfolding IsLookedUp
   looked_from : (b : Bool) (address : ℕ) (s u : AState) → Others s u → (next : Next AThread) → IsLookedUp b address u next → IsLookedUp b address s next
   looked_from true address s u others next (t, goes_to, at, same) = (t, goes_to, at, others_on s u t.state others same)
   looked_from false address s u others next stops = stops
 
   -- the break of a return that is none
-  unfolding IsLookedUp
   missed : (b : Bool) (address at : ℕ) (s : AState) → b ≡ false → instr_at first code at ≡ Some (words.Brk (break_of BadReturn)) → Comes (a64_step may first code) 1 (thread may first code at s) (IsLookedUp b address s)
   missed b address at s none here = comes_last (a64_step may first code) (thread may first code at s) (Stops (Trap BadReturn)) (ap (λ o. a64_take may o (thread may first code at s)) here)
       (subst (λ p. IsLookedUp p address s (Stops (Trap BadReturn))) (sym none) refl)
@@ -71,7 +71,6 @@ module _ (may : Permission) (first : ℕ) (code : List ℕ) (start : ℕ → ℕ
       comes_on may first code (words.BCond condition (pos 2)) at (at + 4) s (record { distance = pos 1; value = 0; nzcv = s.nzcv }) here (ap (λ b. if b then jumps (pos 2) s.nzcv else jumps (pos 1) s.nzcv) test) (moved_next at (omega (arith, room))) later
 
   -- a leaf, by whether X16 is its site
-  unfolding IsLookedUp
   leaf_comes : (site address n at : ℕ) (s : AState) (b : Bool) → (address == site) ≡ b → at ≡ first + 4 * n → at + 12 < 2 ^ 63 → holds not_equal s.nzcv ≡ not b
       → StandAt first code at (words.BCond not_equal (pos 2) ∷ jump (n + 1) (start site) ∷ words.Brk (break_of BadReturn) ∷ [])
       → Comes (a64_step may first code) 2 (thread may first code at s) (IsLookedUp b address s)
@@ -94,7 +93,7 @@ module _ (may : Permission) (first : ℕ) (code : List ℕ) (start : ℕ → ℕ
   leaf_searches : (site : ℕ) → Searches (Leaf site)
   leaf_searches site n at s place fits small room stand =
       let v = s.regs 16 in
-      compare_on may first code site at _ s fits small (omega (arith, room)) stand
+      compare_on may first code site at (words.BCond not_equal (pos 2) ∷ jump (n + 6) (start site) ∷ words.Brk (break_of BadReturn) ∷ []) s fits small (omega (arith, room)) stand
       (λ t others equal less rest.
       let spot : n + 6 ≡ n + 5 + 1 = omega arith in
       comes_wider (a64_step may first code) 2 (thread may first code (behind_compare at) t) (omega arith) (λ next there. looked_from (v == site) v s t others next there)
@@ -133,7 +132,8 @@ module _ (may : Permission) (first : ℕ) (code : List ℕ) (start : ℕ → ℕ
   fork_searches : (site : ℕ) (below above : Search) → Searches below → Searches above → Searches (Fork site below above)
   fork_searches site below above to_below to_above n at s place fits small room stand =
       comes_wider (a64_step may first code) (depth (Fork site below above)) (thread may first code at s) (omega arith) (λ next there. there)
-      (compare_on may first code site at _ s fits.0 small (omega (arith, room)) stand
+      (compare_on may first code site at
+      (words.BCond lower (pos 2) ∷ jump (n + 6) (n + 7 + search_size below) ∷ (search_words start (n + 7) below ++ search_words start (n + 7 + search_size below) above)) s fits.0 small (omega (arith, room)) stand
       (λ t others equal less rest. fork_branches site below above to_below to_above n at s t place fits.1 fits.2 small room others (nat_lt (s.regs 16) site) refl less rest))
 
   pub search_comes : (t : Search) → Searches t

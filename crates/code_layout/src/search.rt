@@ -1,4 +1,4 @@
-ghost use Rattle.std.specs.Prelude.{◌≡◌, ◌≤◌, ◌^◌, ◌+◌, ◌*◌, ◌×◌, ◌++◌, length, OnOk};
+ghost use Rattle.std.specs.Prelude.{◌≡◌, ◌≤◌, ◌^◌, ◌+◌, ◌*◌, ◌++◌, length, OnOk};
 ghost use Rattle.code_layout.specs.Places.{start_of, AreTold};
 ghost use Rattle.code_layout.specs.Search.{Search, IsSearchOf, Rise};
 ghost use Rattle.code_layout.specs.Code.{search_words};

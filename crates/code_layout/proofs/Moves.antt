@@ -1,6 +1,7 @@
 -- What the layout's own words do, one at a time: they show nothing, and go on.
 use Rattle.std.proofs.Common.{◌≡◌, ◌≢◌, ℕ, ◌+◌, ◌*◌, ◌%◌, ◌/◌, ◌^◌, ◌<◌, ◌≤◌, ◌==◌, Bool, true, false, not, List, [], ◌∷◌, ◌++◌, Some, refl, sym, ap, ◌∙◌, subst, arith}
-use Rattle.std.specs.Prelude.{if◌then◌else◌, nat_lt, nat_le, pos, ℤ, ◌-ℤ◌}
+use Rattle.std.specs.Prelude.{if◌then◌else◌, nat_lt, nat_le, pos, ℤ, ◌+ℤ◌, ◌*ℤ◌, ◌-ℤ◌, unsigned_abs}
+use Rattle.std.specs.Int.{int_rem_euclid}
 use Rattle.std.proofs.lemmas.Int.{ints}
 use Rattle.std.proofs.lemmas.Bool.Decides.{nat_tests}
 use Rattle.behavior.specs.Tree.{Tree, Gives, Begins, Next, Goes, ◌then◌}
@@ -31,7 +32,12 @@ moved_next at low = omega (arith, ints, low)
 
 -- to another word of the code
 moved_to : (first from to : ℕ) → first + 4 * from < 2 ^ 63 → first + 4 * to < 2 ^ 63 → moved (first + 4 * from) (pos to -ℤ pos from) ≡ first + 4 * to
-moved_to first from to low there = omega (arith, ints, low, there)
+moved_to first from to room there = ap (λ z. unsigned_abs (int_rem_euclid z (pos (2 ^ 64)))) (far first from to) ∙ near (first + 4 * to) there
+  where
+    far : (first from to : ℕ) → pos (first + 4 * from) +ℤ pos 4 *ℤ (pos to -ℤ pos from) ≡ pos (first + 4 * to)
+    far first from to = omega (arith, ints)
+    near : (n : ℕ) → n < 2 ^ 63 → unsigned_abs (int_rem_euclid (pos n) (pos (2 ^ 64))) ≡ n
+    near n small = omega (arith, ints, small)
 
 -- the same registers, but for X17 and the zero register
 abbrev pub Others : AState → AState → Type 0
