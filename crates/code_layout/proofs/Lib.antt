@@ -7,3 +7,7 @@ pub mod Laid
 pub mod Sizes
 pub mod Placed
 pub mod Trees
+pub mod Starts
+pub mod Pushed
+pub mod BarrierWords
+pub mod Laying

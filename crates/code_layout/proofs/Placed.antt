@@ -22,7 +22,8 @@ use Rattle.a64_block.specs.Conditions.{IsLayable}
 use Rattle.a64_block.specs.declared.block.ABlock.{ABlock}
 use Rattle.code_layout.specs.Places.{end_size, block_size, blocks_size, words_before, place_from, IsBegun}
 use Rattle.code_layout.specs.Carried.{IsCarriedOut}
-use Rattle.code_layout.specs.Conditions.{LeadsToBlocks, firsts, AreClosed, AreBegun}
+use Rattle.code_layout.specs.Conditions.{LeadsToBlocks, AreClosed, AreBegun}
+use Rattle.code_layout.specs.Places.{firsts}
 use Rattle.code_layout.specs.Search.{Search, finds, search_size, depth, Fits, IsSearchOf}
 use Rattle.code_layout.specs.Code.{end_words, block_words, blocks_words, return_words, code_words, IsLaidOut}
 use Rattle.code_layout.proofs.Comes.{Comes, comes_wider}

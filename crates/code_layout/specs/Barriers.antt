@@ -14,13 +14,14 @@ is_barrier DmbLd = true
 is_barrier DmbSt = true
 is_barrier a = false
 
--- the word spells one of them
+-- the same of what a word spells, if it spells an instruction
+abbrev pub is_spelled_barrier : Option (A64 XReg) → Bool
+is_spelled_barrier None = false
+is_spelled_barrier (Some a) = is_barrier a
+
+-- the word spells a barrier
 abbrev pub spells_barrier : ℕ → Bool
-spells_barrier word = is_one (a64_of word)
-  where
-    is_one : Option (A64 XReg) → Bool
-    is_one None = false
-    is_one (Some a) = is_barrier a
+spells_barrier word = is_spelled_barrier (a64_of word)
 
 -- the barriers of blocks, in order, as words
 abbrev pub barriers_of : List (ABlock XReg) → List ℕ

@@ -88,3 +88,11 @@ pub record IsLaidOut (blocks : List (ABlock XReg)) (sites words : List ℕ) : Ty
   pub search : Search
   pub looks_up : IsSearchOf sites search
   pub are : words ≡ map word_of (code_words blocks search)
+
+-- behind some words now stand those of a tree that looks up just these sites
+abbrev pub AppendsSearch : (start : ℕ → ℕ) → (sites : List ℕ) → (old new : List (A64 XReg)) → Type 0
+AppendsSearch start sites old new = (t : Search) × IsSearchOf sites t × (new ≡ old ++ search_words start (length old) t)
+
+-- behind some words now stand those of the returns, in which a tree looks up just these sites
+abbrev pub AppendsReturns : (start : ℕ → ℕ) → (sites : List ℕ) → (old new : List (A64 XReg)) → Type 0
+AppendsReturns start sites old new = (t : Search) × IsSearchOf sites t × (new ≡ old ++ return_words start (length old) t)

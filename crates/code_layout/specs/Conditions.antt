@@ -1,5 +1,5 @@
 -- What the layout asks of blocks.
-use Rattle.std.specs.Prelude.{◌≢◌, ℕ, List, map}
+use Rattle.std.specs.Prelude.{◌≢◌, ℕ, List}
 use Rattle.ev_graph.specs.Places.{StandsIn}
 use Rattle.ev_graph.specs.declared.events.TrapKind.TheVariants.{BadAccess}
 use Rattle.cfg_walk.specs.Code.{IsIncreasing}
@@ -8,7 +8,7 @@ use Rattle.a64_block.specs.Conditions.{IsLayable}
 use Rattle.a64_block.specs.declared.block.AEnd.{AEnd}
 use Rattle.a64_block.specs.declared.block.AEnd.TheVariants as ends
 use Rattle.a64_block.specs.declared.block.ABlock.{ABlock}
-use Rattle.code_layout.specs.Places.{IsBegun}
+use Rattle.code_layout.specs.Places.{firsts, IsBegun}
 
 -- A block that ends so leads to blocks alone. No word traps by BadAccess but the access itself, and no table is laid out so far.
 abbrev pub LeadsToBlocks : List (ABlock XReg) → AEnd XReg → Type 0
@@ -17,10 +17,6 @@ LeadsToBlocks blocks (ends.Branch r a b) = IsBegun blocks a × IsBegun blocks b
 LeadsToBlocks blocks (ends.Return r) = Unit {0}
 LeadsToBlocks blocks (ends.Indexed r table) = ⊥
 LeadsToBlocks blocks (ends.Stop kind) = kind ≢ BadAccess
-
--- the x86 addresses at which blocks begin
-abbrev pub firsts : List (ABlock XReg) → List ℕ
-firsts blocks = map (λ (b : ABlock XReg). b.first) blocks
 
 -- Each block can be laid out, they stand by their addresses, and all ways out of them lead to blocks.
 pub record AreClosed (blocks : List (ABlock XReg)) : Type 0 where

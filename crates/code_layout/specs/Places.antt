@@ -1,5 +1,5 @@
 -- How many words blocks take, and where they stand one behind the other.
-use Rattle.std.specs.Prelude.{◌≡◌, ◌≤◌, ◌^◌, ℕ, ◌+◌, ◌*◌, ◌==◌, List, [], ◌∷◌, length, sum_by, if◌then◌else◌}
+use Rattle.std.specs.Prelude.{◌≡◌, ◌≤◌, ◌^◌, ℕ, ◌+◌, ◌*◌, ◌==◌, List, [], ◌∷◌, length, map, sum_by, if◌then◌else◌}
 use Rattle.std.specs.List.{AllByRecursion}
 use Rattle.ev_graph.specs.Places.{StandsIn}
 use Rattle.cfg_walk.specs.Code.{IsIncreasing}
@@ -34,6 +34,10 @@ words_before (b ∷ bs) address = if address == b.first then 0 else block_size b
 abbrev pub place_from : (first : ℕ) → List (ABlock XReg) → (address : ℕ) → ℕ
 place_from first blocks address = first + 4 * words_before blocks address
 
+-- the x86 addresses at which blocks begin
+abbrev pub firsts : List (ABlock XReg) → List ℕ
+firsts blocks = map (λ (b : ABlock XReg). b.first) blocks
+
 -- a block begins at the x86 address
 abbrev pub IsBegun : List (ABlock XReg) → (address : ℕ) → Type 0
 IsBegun blocks address = (b : ABlock XReg) × StandsIn blocks b × (b.first ≡ address)
@@ -49,10 +53,17 @@ start_in [] starts last address = last
 start_in (f ∷ fs) [] last address = last
 start_in (f ∷ fs) (n ∷ ns) last address = if address == f then n else start_in fs ns last address
 
--- The same of places that are told; and addresses that are told in order, each beside a small number.
+-- the same of places
 abbrev pub start_of : Places → (address : ℕ) → ℕ
 start_of places address = start_in places.firsts places.starts places.end address
 
+-- these are the places of the blocks
+pub record ArePlacesOf (blocks : List (ABlock XReg)) (places : Places) : Type 0 where
+  pub firsts_are : places.firsts ≡ firsts blocks
+  pub starts_are : places.starts ≡ starts_from 0 blocks
+  pub end_is : places.end ≡ blocks_size blocks
+
+-- addresses in order, each beside a small number
 pub record AreTold (places : Places) : Type 0 where
   pub sorted : IsIncreasing places.firsts
   pub each : length places.starts ≡ length places.firsts

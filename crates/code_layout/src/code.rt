@@ -5,8 +5,8 @@ ghost use Rattle.a64_code.specs.Words.{word_of};
 ghost use Rattle.a64_code.specs.declared.instr.A64.TheVariants as words;
 ghost use Rattle.a64_block.specs.Breaks.{break_of};
 ghost use Rattle.code_layout.specs.Places.{start_of, blocks_size, AreTold};
-ghost use Rattle.code_layout.specs.Search.{Search, IsSearchOf, Rise};
-ghost use Rattle.code_layout.specs.Code.{end_words, blocks_words, return_words};
+ghost use Rattle.code_layout.specs.Search.{Rise};
+ghost use Rattle.code_layout.specs.Code.{end_words, blocks_words, AppendsReturns};
 
 use crate::places::Places;
 use crate::search::push_search;
@@ -50,7 +50,7 @@ fn push_break(code: &mut Vec<A64<XReg>>, kind: TrapKind) -> Result<(), NoMemory>
 }
 
 /// Appends the words of blocks, one behind the other.
-fn push_blocks(
+pub fn push_blocks(
     code: &mut Vec<A64<XReg>>,
     blocks: &[ABlock<XReg>],
     places: &Places,
@@ -67,7 +67,7 @@ fn push_blocks(
 }
 
 /// Appends the words that take a return address.
-fn push_returns(
+pub fn push_returns(
     code: &mut Vec<A64<XReg>>,
     sites: &[u64],
     places: &Places,
@@ -75,7 +75,7 @@ fn push_returns(
     requires places { AreTold places.now }
     requires sites { Rise sites.now }
     requires few { length code.old.items + 15 * length sites.now + 2 ≤ 2 ^ 23 }
-    ensures { OnOk result ((t : Search) × IsSearchOf sites.now t × (code.new.items ≡ code.old.items ++ return_words (start_of places.now) (length code.old.items) t)) }
+    ensures { OnOk result (AppendsReturns (start_of places.now) sites.now code.old.items code.new.items) }
 {
     code.push(A64::Cbnz(true, POPPED, 2))?;
     code.push(A64::Svc(HALTS))?;

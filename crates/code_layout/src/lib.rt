@@ -4,6 +4,9 @@
 #![tactic(auto)]
 
 mod code;
+mod layout;
 mod places;
 mod search;
 mod words;
+
+pub use layout::lay_out;

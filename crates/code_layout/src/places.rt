@@ -1,6 +1,6 @@
 ghost use Rattle.std.specs.Prelude.{◌≡◌, ◌≤◌, ◌^◌, IfOk};
 ghost use Rattle.code_layout.specs.Places.{end_size, block_size, blocks_size, starts_from, start_of, AreTold};
-ghost use Rattle.code_layout.specs.Conditions.{firsts};
+ghost use Rattle.code_layout.specs.Places.{firsts};
 
 use a64_block::{ABlock, AEnd};
 use a64_code::XReg;

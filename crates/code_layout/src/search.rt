@@ -1,7 +1,7 @@
-ghost use Rattle.std.specs.Prelude.{◌≡◌, ◌≤◌, ◌^◌, ◌+◌, ◌*◌, ◌++◌, length, OnOk};
+ghost use Rattle.std.specs.Prelude.{◌≤◌, ◌^◌, ◌+◌, ◌*◌, length, OnOk};
 ghost use Rattle.code_layout.specs.Places.{start_of, AreTold};
-ghost use Rattle.code_layout.specs.Search.{Search, IsSearchOf, Rise};
-ghost use Rattle.code_layout.specs.Code.{search_words};
+ghost use Rattle.code_layout.specs.Search.{Rise};
+ghost use Rattle.code_layout.specs.Code.{AppendsSearch};
 
 use crate::places::Places;
 use crate::words::{push_fork, push_leaf};
@@ -21,7 +21,7 @@ pub fn push_search(
     requires places { AreTold places.now }
     requires sites { Rise sites.now }
     requires few { length code.old.items + 15 * length sites.now ≤ 2 ^ 23 }
-    ensures { OnOk result ((t : Search) × IsSearchOf sites.now t × (code.new.items ≡ code.old.items ++ search_words (start_of places.now) (length code.old.items) t)) }
+    ensures { OnOk result (AppendsSearch (start_of places.now) sites.now code.old.items code.new.items) }
 {
     if sites.is_empty() {
         code.push(A64::Brk(break_of(TrapKind::BadReturn)))?;
