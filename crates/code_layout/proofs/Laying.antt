@@ -22,6 +22,10 @@ use Rattle.code_layout.proofs.Placed.{all_stand}
 use Rattle.code_layout.proofs.Sizes.{length-blocks_words, length-code_words, code_encodable}
 use Rattle.code_layout.proofs.Starts.{told_is}
 
+-- blocks behind nothing
+pub blocks_behind : (start : ℕ → ℕ) (returns : ℕ) (blocks : List (ABlock XReg)) (old new : List (A64 XReg)) → old ≡ [] → new ≡ old ++ blocks_words start returns (length old) blocks → new ≡ blocks_words start returns 0 blocks
+blocks_behind start returns blocks old new none is = is ∙ ap (λ l. l ++ blocks_words start returns (length l) blocks) none
+
 -- blocks, and then the returns
 pub all_appended : (blocks : List (ABlock XReg)) (sites : List ℕ) (places : Places) (mid new : List (A64 XReg)) → ArePlacesOf blocks places
     → mid ≡ blocks_words (start_of places) places.end 0 blocks → AppendsReturns (start_of places) sites mid new → (t : Search) × IsSearchOf sites t × (new ≡ code_words blocks t)
