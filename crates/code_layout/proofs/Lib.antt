@@ -11,3 +11,5 @@ pub mod Starts
 pub mod Pushed
 pub mod BarrierWords
 pub mod Laying
+pub mod Threads
+pub mod CallerLemmas
