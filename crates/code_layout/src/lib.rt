@@ -10,3 +10,6 @@ mod search;
 mod words;
 
 pub use layout::lay_out;
+
+#[cfg(test)]
+mod tests;
