@@ -92,7 +92,7 @@ module _ (private : Slot → Bool) where
           → Path (step p.state) (bare xs) (plain q) n × Lands q
       step_bare p ss (inl (none, stands)) {xs} {q} {n} path =
           path_bare (step p.state) ss p.gaps (realizes p.state ss stands) (subst (λ g. Path (planned_from private g p.gaps (step p.state)) xs q n) none path)
-      step_bare p ss (inr (done, (next, leads, stands))) {xs} {q} {n} path =
+      step_bare p ss (inr (next, leads, stands)) {xs} {q} {n} path =
           from_block next stands (subst (λ g. Path (planned_from private g p.gaps (step p.state)) xs q n) leads path)
         where
           from_block : (next : List Station) → Stands p.state next → {xs : List Item} {q : Point (Next (Planning S))} {n : ℕ} → Path (planned_from private (Some (gaps next)) p.gaps (step p.state)) xs q n

@@ -225,7 +225,7 @@ module _ (private : Slot → Bool) where
 
     ready : (p : Planning S) (ss : List Station) (o : Open) → StandsOn plan Stands p.state ss → Inside ss p.gaps o → Ready p o
     ready p ss o (inl (none, stands)) inside = inl (ss, none, stands, inside)
-    ready p ss o (inr (done, (next, leads, stands))) inside = inr (next, leads, stands, inside.closes.locked, inside.closes.reads)
+    ready p ss o (inr (next, leads, stands)) inside = inr (next, leads, stands, inside.closes.locked, inside.closes.reads)
 
     module _ (step : S → Tree (Next S)) (realizes : RealizesPlan private plan Stands step) where
       begin_inside : (next : List Station) (o : Open) → o.locked ≡ false → o.reads ≡ false → Inside next (later_gaps (gaps next)) (behind_gap (current None false next) o)

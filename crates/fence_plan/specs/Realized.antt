@@ -31,11 +31,11 @@ pub data IsAct (private : Slot → Bool) : List Item → List Station → List S
   -- MFENCE
   strong : {f : FenceItem} {ss : List Station} → f.kind ≡ Mfence → IsAct private (items.Fence f ∷ []) (Strong ∷ ss) ss
 
--- A state stands within a block of which these stations are still to come; or that block is done, and another begins there.
+-- A state stands within a block of which these stations are still to come; or another block begins there.
 abbrev pub StandsOn : {S : Type 0} → (plan : S → Option (List Gap)) → (Stands : S → List Station → Type 0) → S → List Station → Type 0
 StandsOn plan Stands s ss =
     ((plan s ≡ None) × Stands s ss)
-    ⊎ ((ss ≡ []) × ((next : List Station) × (plan s ≡ Some (gaps next)) × Stands s next))
+    ⊎ ((next : List Station) × (plan s ≡ Some (gaps next)) × Stands s next)
 
 -- Each way through the tree makes what these stations stand for, in order, and comes to states where the others are to come.
 abbrev pub Realizes : {S : Type 0} → (private : Slot → Bool) → (plan : S → Option (List Gap)) → (Stands : S → List Station → Type 0) → List Station → Tree (Next S) → Type 0

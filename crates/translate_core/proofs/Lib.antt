@@ -3,3 +3,4 @@ pub mod StartBytes
 pub mod SameThreads
 pub mod Accounted
 pub mod RowStations
+pub mod CodeRealizes
