@@ -122,17 +122,17 @@ module _ (program : Program) (code : Code) (is : IsCodeOf program code) where
   placed_of : (p : Placed) → StandsIn code.placed p → IsPlaced program p
   placed_of p at = (is.placed.exact p).0 at
 
-  stretch_inner : {a n : ℕ} → IsStretch program a n → (ps : List Placed) → length ps ≡ n → BeginAt a ps → Follow ps → AllByRecursion (StandsIn code.placed) ps → AreInner program ps
-  stretch_inner stretch [] many begin follow each = tt
-  stretch_inner stretch (p ∷ []) many begin follow each = tt
-  stretch_inner (ends q placed end) (p ∷ r ∷ ps) many begin follow each = absurd (omega (arith, many))
-  stretch_inner (goes-on {n = n} q placed open_it inside rest) (p ∷ r ∷ ps) many begin follow each =
+  stretch_inner : (ps : List Placed) → {a n : ℕ} → IsStretch program a n → length ps ≡ n → BeginAt a ps → Follow ps → AllByRecursion (StandsIn code.placed) ps → AreInner program ps
+  stretch_inner [] stretch many begin follow each = tt
+  stretch_inner (p ∷ []) stretch many begin follow each = tt
+  stretch_inner (p ∷ r ∷ ps) (ends q placed end) many begin follow each = absurd (omega (arith, many))
+  stretch_inner (p ∷ r ∷ ps) (goes-on {n = n} q placed open_it inside rest) many begin follow each =
       let same : p ≡ q = one_placed p q (placed_of p each.0) placed begin in
       let here : r.address ≡ end_of q = follow.0 ∙ ap end_of same in
-      ((λ leader. inside (subst (λ (x : Placed). IsLeader program (end_of x)) same leader)), stretch_inner rest (r ∷ ps) (omega (arith, many)) here follow.1 each.1)
+      ((λ leader. inside (subst (λ (x : Placed). IsLeader program (end_of x)) same leader)), stretch_inner (r ∷ ps) rest (omega (arith, many)) here follow.1 each.1)
 
   block_inner : (b : Block) (ps : List Placed) → StandsIn code.blocks b → AreOf code.placed b ps → AreInner program ps
-  block_inner b ps at are = stretch_inner ((is.blocks.exact b).0 at).stretch ps are.many are.first are.follow are.each
+  block_inner b ps at are = stretch_inner ps ((is.blocks.exact b).0 at).stretch are.many are.first are.follow are.each
 
   module _ (segments : AllByRecursion IsSegment program.parts) (private : Slot → Bool) (plan : ℕ → Option (List Gap)) (is_plan : IsPlan private code plan) where
     -- what is still to come of a block in which a thread stands: what these instructions make
