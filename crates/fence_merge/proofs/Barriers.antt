@@ -17,7 +17,8 @@ use Rattle.fence_plan.specs.Gaps.{fences_of}
 use Rattle.fence_plan.specs.Planned.{barrier_item, given, first_given, later_gaps, is_barrier, with_barrier, shared_view, IsFence}
 use Rattle.fence_plan.specs.Private.{slot_kind, is_private, privacy}
 use Rattle.fence_plan.specs.declared.gap.Gap.{Gap}
-use Rattle.fence_merge.specs.Follows.{is_write, starts_with_locked_write, begins_gap, dressed}
+use Rattle.ev_graph.specs.WellFormed.{is_write}
+use Rattle.fence_plan.specs.Dressed.{starts_with_locked_write, begins_gap, dressed}
 use Rattle.fence_merge.proofs.Views.{IsQuiet, IsFirst, IsSecond, IsTurn, one, pair}
 
 -- one item in front, whatever the turns are

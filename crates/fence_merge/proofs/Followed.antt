@@ -29,7 +29,8 @@ use Rattle.fence_plan.specs.Planned.{barrier_item, given, first_given, later_gap
 use Rattle.fence_plan.specs.declared.gap.Gap.{Gap}
 use Rattle.fence_merge.specs.Roles.{stations, unfenced}
 use Rattle.fence_merge.specs.Merged.{gap_steps, first_steps, woven, merged}
-use Rattle.fence_merge.specs.Follows.{starts_with_locked_write, dressed, IsAtState, FollowsGaps, FollowsPlanOf}
+use Rattle.fence_plan.specs.Dressed.{starts_with_locked_write, dressed}
+use Rattle.fence_merge.specs.Follows.{IsAtState, FollowsGaps, FollowsPlanOf}
 use Rattle.fence_merge.proofs.Barriers.{barriers_fences, given_fences, quiet_starts, turn_starts, Owed, quiet_owed, turn_owed, pays_owed}
 use Rattle.fence_merge.proofs.Counted.{fence_list, gap_fences, as_steps, gap_steps-are}
 use Rattle.fence_merge.proofs.Planned.{woven-slot, woven-other, kept-slot, kept-other}

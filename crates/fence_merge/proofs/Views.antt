@@ -25,7 +25,7 @@ use Rattle.fence_place.specs.Marked.{marked}
 use Rattle.fence_plan.specs.Private.{is_private}
 use Rattle.fence_merge.specs.declared.role.Role.TheVariants.{Boundary, Other}
 use Rattle.fence_merge.specs.Roles.{role, shared_unless, without_fence}
-use Rattle.fence_merge.specs.Follows.{is_write}
+use Rattle.ev_graph.specs.WellFormed.{is_write}
 
 -- an item that shows nothing to the plan
 abbrev pub IsQuiet : (private : Slot → Bool) → Item → Type 0

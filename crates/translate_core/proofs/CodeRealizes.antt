@@ -93,7 +93,7 @@ some_same : {A : Type 0} {x y : A} → Some x ≡ Some y → x ≡ y
 some_same e = cc
 
 -- the one successor of an instruction with which no block ends
-behind : (p : Placed) (a : ℕ) → ends_block p.instr ≡ false → StandsIn (successors p) a → a ≡ end_of p
+pub behind : (p : Placed) (a : ℕ) → ends_block p.instr ≡ false → StandsIn (successors p) a → a ≡ end_of p
 behind p a open_it at = only (end_of p) a at.0 (subst (λ xs. slice_get xs at.0 ≡ Some a) (falls p.instr p.flow (end_of p) open_it) at.1)
 
 -- from the last instruction of a stretch control comes to where a block may begin
@@ -164,7 +164,7 @@ module _ (program : Program) (code : Code) (is : IsCodeOf program code) where
         )
 
     -- where no block may begin the plan says nothing
-    no_plan : (a : ℕ) → (IsLeader program a → ⊥) → plan a ≡ None
+    pub no_plan : (a : ℕ) → (IsLeader program a → ⊥) → plan a ≡ None
     no_plan a inside = is_plan.none a (λ b at same. inside (subst (IsLeader program) same ((is.blocks.exact b).0 at).leader))
 
     module _ (may : Permission) where

@@ -4,3 +4,5 @@ pub mod SameThreads
 pub mod Accounted
 pub mod RowStations
 pub mod CodeRealizes
+pub mod BlockWithin
+pub mod Passes
