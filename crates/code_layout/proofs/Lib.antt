@@ -12,4 +12,6 @@ pub mod Pushed
 pub mod BarrierWords
 pub mod Laying
 pub mod Threads
+pub mod Literals
+pub mod SmallPrograms
 pub mod CallerLemmas

@@ -14,12 +14,9 @@ use ev_graph::{List, NoMemory, TrapKind};
 use std::alloc::Global;
 use std::test::Fail;
 
-/// The register Xn.
-fn x(number: u8) -> XReg
-    ensures { result ≡ record { number = number } }
-{
-    XReg { number }
-}
+const X0: XReg = XReg { number: 0 };
+const X4: XReg = XReg { number: 4 };
+const X23: XReg = XReg { number: 23 };
 
 fn block(
     alloc: Global,
@@ -88,14 +85,14 @@ fn loop_blocks(alloc: Global) -> Result<Vec<ABlock<XReg>>, NoMemory>
     let before = block(
         alloc,
         0x401000,
-        &[A64::Movz(true, x(0), 3, 0)],
+        &[A64::Movz(true, X0, 3, 0)],
         AEnd::Goto(0x401005),
     )?;
     let again = block(
         alloc,
         0x401005,
-        &[A64::SubImm(true, x(0), x(0), 1)],
-        AEnd::Branch(x(0), 0x401005, 0x40100A),
+        &[A64::SubImm(true, X0, X0, 1)],
+        AEnd::Branch(X0, 0x401005, 0x40100A),
     )?;
     let behind = block(
         alloc,
@@ -139,8 +136,8 @@ fn call_blocks(alloc: Global) -> Result<Vec<ABlock<XReg>>, NoMemory>
     let first = block(alloc, 0x401000, &[], AEnd::Goto(0x401020))?;
     let second = block(alloc, 0x401005, &[], AEnd::Goto(0x401020))?;
     let last = block(alloc, 0x40100A, &[], AEnd::Stop(TrapKind::Invalid))?;
-    let load = [A64::Ldr(8, x(23), x(4), 0)];
-    let called = block(alloc, 0x401020, &load, AEnd::Return(x(23)))?;
+    let load = [A64::Ldr(8, X23, X4, 0)];
+    let called = block(alloc, 0x401020, &load, AEnd::Return(X23))?;
     Ok(Vec::from_array(alloc, [first, second, last, called])?)
 }
 
