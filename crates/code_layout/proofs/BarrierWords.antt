@@ -5,7 +5,6 @@ use Rattle.std.specs.List.{AllByRecursion}
 use Rattle.std.proofs.lemmas.List.{append-nil, map-append}
 use Rattle.std.proofs.lemmas.List.Concat.{flat_map-cons}
 use Rattle.std.proofs.lemmas.List.Elements.{filter-append}
-use Rattle.ev_graph.specs.declared.events.TrapKind.TheVariants.{BadReturn}
 use Rattle.a64_code.specs.declared.instr.XReg.{XReg}
 use Rattle.a64_code.specs.declared.instr.A64.{A64}
 use Rattle.a64_code.specs.Ranges.{IsEncodable}
@@ -17,7 +16,7 @@ use Rattle.a64_block.specs.declared.block.ABlock.{ABlock}
 use Rattle.code_layout.specs.Places.{block_size, blocks_size, words_before}
 use Rattle.code_layout.specs.Barriers.{is_barrier, is_spelled_barrier, spells_barrier, barriers_of}
 use Rattle.code_layout.specs.Search.{Search, Nowhere, Leaf, Fork, search_size}
-use Rattle.code_layout.specs.Code.{fork_words, search_words, return_words, end_words, block_words, blocks_words, code_words}
+use Rattle.code_layout.specs.Code.{search_words, return_words, end_words, block_words, blocks_words, code_words}
 
 -- words that spell barriers are those of barriers
 spelled : (ws : List (A64 XReg)) → AllByRecursion IsEncodable ws → filter spells_barrier (map word_of ws) ≡ map word_of (filter is_barrier ws)

@@ -1,6 +1,6 @@
 -- Where a machine comes to by few steps that show nothing.
-use Rattle.std.proofs.Common.{◌≡◌, ℕ, zero, suc, ◌+◌, ◌<◌, ◌≤◌, sym, subst, arith}
-use Rattle.behavior.specs.Tree.{Tree, Gives, Begins, Acts, Next, Goes, ticks}
+use Rattle.std.proofs.Common.{◌≡◌, ℕ, suc, ◌+◌, ◌<◌, ◌≤◌, sym, subst, arith}
+use Rattle.behavior.specs.Tree.{Tree, Gives, Begins, Next, Goes, ticks}
 use Rattle.behavior.specs.Acts.{goes}
 use Rattle.behavior.specs.Unfolds.{Unfolds, block-ends, block-goes, block-begins, block-acts}
 

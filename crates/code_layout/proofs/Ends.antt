@@ -1,19 +1,17 @@
 -- The words behind those of a block go to where the block leaves to.
-use Rattle.std.proofs.Common.{◌≡◌, ◌≢◌, ℕ, ◌+◌, ◌*◌, ◌%◌, ◌^◌, ◌<◌, ◌≤◌, ◌==◌, Bool, true, false, not, List, [], ◌∷◌, ◌++◌, length, Some, None, refl, sym, ap, ◌∙◌, subst, arith}
+use Rattle.std.proofs.Common.{◌≡◌, ◌≢◌, ℕ, ◌+◌, ◌*◌, ◌%◌, ◌^◌, ◌<◌, ◌≤◌, ◌==◌, Bool, true, false, not, List, Some, None, refl, sym, ap, ◌∙◌, subst, arith}
 use Rattle.std.specs.Prelude.{if◌then◌else◌, pos, bit_or}
 use Rattle.std.specs.Int.Bits.{or_zero_l}
-use Rattle.std.proofs.lemmas.Bool.{eqb-true}
 use Rattle.ev_graph.specs.declared.events.End.TheVariants.{Halted, Trap}
 use Rattle.ev_graph.specs.declared.events.TrapKind.{TrapKind}
 use Rattle.ev_graph.specs.declared.events.TrapKind.TheVariants.{Divide, Invalid, BadReturn, BadJump, BadAccess}
-use Rattle.behavior.specs.Tree.{Tree, Gives, Next, Goes, Stops, ◌then◌}
+use Rattle.behavior.specs.Tree.{Gives, Next, Goes, Stops, ◌then◌}
 use Rattle.behavior.specs.Acts.{put, Permission}
 use Rattle.behavior.specs.Exits.{Exits, Arrived, or_trap, resolved, arrives, lands}
-use Rattle.behavior.specs.Leaving.{Target, ToBlock, ToReturn, ToEntry}
+use Rattle.behavior.specs.Leaving.{ToReturn, ToEntry}
 use Rattle.behavior.specs.Kept.{SameNext, both-go, both-stop}
 use Rattle.behavior.proofs.Banks.{put_other}
 use Rattle.a64_code.specs.declared.instr.XReg.{XReg}
-use Rattle.a64_code.specs.declared.instr.A64.{A64}
 use Rattle.a64_code.specs.declared.instr.A64.TheVariants as words
 use Rattle.a64_table.specs.State.{xregs, AState, value}
 use Rattle.a64_table.specs.Values.{low, shifted}
@@ -29,9 +27,9 @@ use Rattle.code_layout.specs.Places.{words_before, IsBegun}
 use Rattle.code_layout.specs.Carried.{ArrivesAt}
 use Rattle.code_layout.specs.Conditions.{LeadsToBlocks}
 use Rattle.code_layout.specs.Search.{Search, Nowhere, Leaf, Fork, finds, search_size, depth, Fits}
-use Rattle.code_layout.specs.Code.{x, jump, halts, return_words, end_words}
+use Rattle.code_layout.specs.Code.{x, jump, return_words, end_words}
 use Rattle.code_layout.proofs.Comes.{Comes, comes_last, comes_wider}
-use Rattle.code_layout.proofs.Moves.{Others, moved_on, moved_next, thread, comes_on, comes_jump, jumps_on}
+use Rattle.code_layout.proofs.Moves.{moved_on, moved_next, thread, comes_on, comes_jump, jumps_on}
 use Rattle.code_layout.proofs.Searches.{IsLookedUp, search_comes}
 
 -- where a state goes from a block's end

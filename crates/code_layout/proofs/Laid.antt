@@ -1,10 +1,9 @@
 -- A block with its end is carried out by its words.
-use Rattle.std.proofs.Common.{◌≡◌, ℕ, suc, ◌+◌, ◌*◌, ◌^◌, ◌<◌, ◌≤◌, List, [], ◌∷◌, ◌++◌, length, refl, sym, ap, ◌∙◌, subst, arith}
+use Rattle.std.proofs.Common.{◌≡◌, ℕ, suc, ◌+◌, ◌*◌, ◌^◌, ◌<◌, List, [], ◌∷◌, length, refl, sym, subst, arith}
 use Rattle.std.specs.List.{AllByRecursion}
-use mathlib.Core.Path.{fun_ext}
 use Rattle.behavior.specs.Tree.{Tree, Gives, Begins, Next, Goes, ◌then◌, ticks}
 use Rattle.behavior.specs.Acts.{Permission, goes}
-use Rattle.behavior.specs.Exits.{Exits, Arrived, lands}
+use Rattle.behavior.specs.Exits.{Exits, lands}
 use Rattle.behavior.specs.Seen.{lowered}
 use Rattle.behavior.specs.Kept.{SameNext, Keeps}
 use Rattle.behavior.specs.Unfolds.{Unfolds, block-ends, block-goes}
@@ -12,7 +11,7 @@ use Rattle.behavior.proofs.Paths.{then-assoc}
 use Rattle.behavior.proofs.SeenLemmas.{sees-lowered}
 use Rattle.behavior.proofs.Beside.{Beside, give, spend_many, beside_keeps}
 use Rattle.behavior.proofs.Results.{self_then}
-use Rattle.behavior.proofs.Unfolding.{AllResults, unfolds_then}
+use Rattle.behavior.proofs.Unfolding.{unfolds_then}
 use Rattle.a64_code.specs.declared.instr.XReg.{XReg}
 use Rattle.a64_code.specs.declared.instr.A64.{A64}
 use Rattle.a64_table.specs.State.{xregs, AState}
@@ -21,7 +20,7 @@ use Rattle.a64_table.specs.Machine.{AThread, a64_step}
 use Rattle.a64_table.proofs.CallerLemmas as machine
 use Rattle.a64_table.proofs.CallerLemmas.{StandAt, words_unfold}
 use Rattle.a64_block.specs.Blocks.{a64_end, a64_block}
-use Rattle.a64_block.specs.Conditions.{IsLayable, StaysInside}
+use Rattle.a64_block.specs.Conditions.{StaysInside}
 use Rattle.a64_block.specs.declared.block.AEnd.{AEnd}
 use Rattle.a64_block.specs.declared.block.ABlock.{ABlock}
 use Rattle.a64_block.proofs.CallerLemmas.{IsWhole, words_whole}

@@ -1,10 +1,9 @@
 -- What holds of a code whose words were appended one after the other.
-use Rattle.std.proofs.Common.{◌≡◌, ℕ, ◌+◌, ◌*◌, ◌^◌, ◌<◌, ◌≤◌, List, [], ◌∷◌, ◌++◌, length, map, refl, sym, ap, ◌∙◌, subst, arith, length-append}
+use Rattle.std.proofs.Common.{◌≡◌, ℕ, ◌+◌, ◌*◌, ◌^◌, ◌≤◌, List, [], ◌++◌, length, map, sym, ap, ◌∙◌, subst, arith}
 use Rattle.std.specs.Prelude.{filter}
 use mathlib.Core.Path.{fun_ext}
 use Rattle.std.specs.List.{AllByRecursion}
 use Rattle.std.proofs.lemmas.List.{length-map}
-use Rattle.ev_graph.specs.Places.{StandsIn}
 use Rattle.a64_code.specs.declared.instr.XReg.{XReg}
 use Rattle.a64_code.specs.declared.instr.A64.{A64}
 use Rattle.a64_code.specs.Ranges.{IsEncodable}
@@ -15,7 +14,7 @@ use Rattle.code_layout.specs.declared.places.Places.{Places}
 use Rattle.code_layout.specs.Places.{blocks_size, words_before, start_of, ArePlacesOf}
 use Rattle.code_layout.specs.Conditions.{AreClosed}
 use Rattle.code_layout.specs.Barriers.{spells_barrier, barriers_of}
-use Rattle.code_layout.specs.Search.{Search, IsSearchOf, search_size}
+use Rattle.code_layout.specs.Search.{Search, IsSearchOf}
 use Rattle.code_layout.specs.Code.{return_words, blocks_words, code_words, AppendsReturns, IsLaidOut}
 use Rattle.code_layout.proofs.BarrierWords.{barriers_once}
 use Rattle.code_layout.proofs.Placed.{all_stand}
@@ -33,9 +32,12 @@ all_appended blocks sites places mid new are mid_is (t, looks_up, new_is) =
     let same : start_of places ≡ words_before blocks = fun_ext (told_is blocks places are) in
     let blocks_are : mid ≡ blocks_words (words_before blocks) (blocks_size blocks) 0 blocks =
     mid_is ∙ ap (λ start. blocks_words start places.end 0 blocks) same ∙ ap (λ n. blocks_words (words_before blocks) n 0 blocks) are.end_is in
-    let long : length mid ≡ blocks_size blocks = ap length blocks_are ∙ length-blocks_words (words_before blocks) (blocks_size blocks) 0 blocks in
-    (t, looks_up, new_is ∙ ap (λ start. mid ++ return_words start (length mid) t) same ∙ ap (λ n. mid ++ return_words (words_before blocks) n t) long
-    ∙ ap (λ l. l ++ return_words (words_before blocks) (blocks_size blocks) t) blocks_are)
+    let long : length mid ≡ blocks_size blocks = ap length blocks_are ∙ length-blocks_words (words_before blocks) (blocks_size blocks) 0 blocks in (
+      t,
+      looks_up,
+      new_is ∙ ap (λ start. mid ++ return_words start (length mid) t) same ∙ ap (λ n. mid ++ return_words (words_before blocks) n t) long
+          ∙ ap (λ l. l ++ return_words (words_before blocks) (blocks_size blocks) t) blocks_are,
+    )
 
 -- all of them can be encoded
 pub all_encodable : (blocks : List (ABlock XReg)) (sites : List ℕ) (new : List (A64 XReg)) → AreClosed blocks → blocks_size blocks + 15 * length sites ≤ 2 ^ 22

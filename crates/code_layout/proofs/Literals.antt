@@ -1,8 +1,7 @@
 -- What holds of blocks and sites that are written out.
-use Rattle.std.proofs.Common.{◌≡◌, ℕ, zero, suc, ◌<◌, List, [], ◌∷◌, Some, sym, subst, arith}
+use Rattle.std.proofs.Common.{◌≡◌, ℕ, zero, suc, ◌<◌, List, [], ◌∷◌, Some, subst, arith}
 use Rattle.std.specs.Prelude.{slice_get}
 use Rattle.std.specs.List.{AllByRecursion}
-use Rattle.ev_graph.specs.Places.{StandsIn}
 use Rattle.cfg_walk.specs.Code.{IsIncreasing}
 use Rattle.a64_code.specs.declared.instr.XReg.{XReg}
 use Rattle.a64_block.specs.Conditions.{IsLayable}

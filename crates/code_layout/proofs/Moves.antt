@@ -1,10 +1,10 @@
 -- What the layout's own words do, one at a time: they show nothing, and go on.
-use Rattle.std.proofs.Common.{◌≡◌, ◌≢◌, ℕ, ◌+◌, ◌*◌, ◌%◌, ◌/◌, ◌^◌, ◌<◌, ◌≤◌, ◌==◌, Bool, true, false, not, List, [], ◌∷◌, ◌++◌, Some, refl, sym, ap, ◌∙◌, subst, arith}
-use Rattle.std.specs.Prelude.{if◌then◌else◌, nat_lt, nat_le, pos, ℤ, ◌+ℤ◌, ◌*ℤ◌, ◌-ℤ◌, unsigned_abs}
+use Rattle.std.proofs.Common.{◌≡◌, ◌≢◌, ℕ, ◌+◌, ◌*◌, ◌%◌, ◌^◌, ◌<◌, ◌==◌, true, not, List, ◌++◌, Some, refl, ap, ◌∙◌, arith}
+use Rattle.std.specs.Prelude.{if◌then◌else◌, nat_lt, pos, ◌+ℤ◌, ◌*ℤ◌, ◌-ℤ◌, unsigned_abs}
 use Rattle.std.specs.Int.{int_rem_euclid}
 use Rattle.std.proofs.lemmas.Int.{ints}
 use Rattle.std.proofs.lemmas.Bool.Decides.{nat_tests}
-use Rattle.behavior.specs.Tree.{Tree, Gives, Begins, Next, Goes, ◌then◌}
+use Rattle.behavior.specs.Tree.{Tree, Begins, Next, Goes, ◌then◌}
 use Rattle.behavior.specs.Acts.{put, Permission, goes}
 use Rattle.behavior.proofs.Banks.{put_other}
 use Rattle.word_arith.specs.Bits.{insert}
@@ -12,11 +12,10 @@ use Rattle.word_arith.specs.ArmWords.{subs_value}
 use Rattle.a64_code.specs.declared.instr.XReg.{XReg}
 use Rattle.a64_code.specs.declared.instr.A64.{A64}
 use Rattle.a64_code.specs.declared.instr.A64.TheVariants as words
-use Rattle.a64_table.specs.declared.state.Nzcv.{Nzcv}
 use Rattle.a64_table.specs.declared.state.Done.{Done}
 use Rattle.a64_table.specs.State.{xregs, AState, value, after, moved}
 use Rattle.a64_table.specs.Values.{low, shifted, holds, subs_flags}
-use Rattle.a64_table.specs.Rows.{jumps, a64_row, a64_result}
+use Rattle.a64_table.specs.Rows.{a64_row, a64_result}
 use Rattle.a64_table.specs.Machine.{AThread, a64_take, a64_step}
 use Rattle.a64_table.proofs.CallerLemmas.{instr_at, StandAt}
 use Rattle.code_layout.specs.Code.{x, not_equal, lower, jump, quarter_of, compare_words}
@@ -36,6 +35,7 @@ moved_to first from to room there = ap (λ z. unsigned_abs (int_rem_euclid z (po
   where
     far : (first from to : ℕ) → pos (first + 4 * from) +ℤ pos 4 *ℤ (pos to -ℤ pos from) ≡ pos (first + 4 * to)
     far first from to = omega (arith, ints)
+
     near : (n : ℕ) → n < 2 ^ 63 → unsigned_abs (int_rem_euclid (pos n) (pos (2 ^ 64))) ≡ n
     near n small = omega (arith, ints, small)
 

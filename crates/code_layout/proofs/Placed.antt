@@ -1,6 +1,6 @@
 -- The blocks of a code that is laid out are carried out.
 use Rattle.std.proofs.Common.{◌≡◌, ◌≢◌, ℕ, zero, suc, ◌+◌, ◌*◌, ◌^◌, ◌<◌, ◌≤◌, ◌==◌, Bool, true, false, List, [], ◌∷◌, ◌++◌, length, map, Some, refl, sym, ap, ◌∙◌, subst, arith}
-use Rattle.std.specs.Prelude.{if◌then◌else◌, slice_get, ◌||◌}
+use Rattle.std.specs.Prelude.{slice_get, ◌||◌}
 use Rattle.std.specs.List.{AllByRecursion}
 use Rattle.std.specs.Option.{option_map}
 use Rattle.std.proofs.lemmas.List.{append-nil}
@@ -20,17 +20,17 @@ use Rattle.a64_table.specs.State.{AState}
 use Rattle.a64_table.proofs.CallerLemmas.{StandAt, words_stand}
 use Rattle.a64_block.specs.Conditions.{IsLayable}
 use Rattle.a64_block.specs.declared.block.ABlock.{ABlock}
-use Rattle.code_layout.specs.Places.{end_size, block_size, blocks_size, words_before, place_from, IsBegun}
+use Rattle.code_layout.specs.Places.{end_size, block_size, blocks_size, words_before}
 use Rattle.code_layout.specs.Carried.{IsCarriedOut}
-use Rattle.code_layout.specs.Conditions.{LeadsToBlocks, AreClosed, AreBegun}
+use Rattle.code_layout.specs.Conditions.{AreClosed, AreBegun}
 use Rattle.code_layout.specs.Places.{firsts}
-use Rattle.code_layout.specs.Search.{Search, finds, search_size, depth, Fits, IsSearchOf}
+use Rattle.code_layout.specs.Search.{search_size, depth}
 use Rattle.code_layout.specs.Code.{end_words, block_words, blocks_words, return_words, code_words, IsLaidOut}
-use Rattle.code_layout.proofs.Comes.{Comes, comes_wider}
+use Rattle.code_layout.proofs.Comes.{comes_wider}
 use Rattle.code_layout.proofs.Searches.{stand_first, stand_second}
 use Rattle.code_layout.proofs.Ends.{AreReturns, end_comes}
-use Rattle.code_layout.proofs.Laid.{DoesBlock, does_block}
-use Rattle.code_layout.proofs.Sizes.{length-block_words, length-blocks_words, blocks_size-cons, length-code_words, words_before_le, AreLayable, code_encodable}
+use Rattle.code_layout.proofs.Laid.{does_block}
+use Rattle.code_layout.proofs.Sizes.{length-block_words, length-blocks_words, blocks_size-cons, words_before_le, AreLayable, code_encodable}
 
 -- a property of all that stands in a list is one of its elements
 pub all_stand : {A : Type 0} (P : A → Type 0) (xs : List A) → ((x : A) → StandsIn xs x → P x) → AllByRecursion P xs

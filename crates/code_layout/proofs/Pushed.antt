@@ -1,5 +1,5 @@
 -- Words that are appended one after the other.
-use Rattle.std.proofs.Common.{◌≡◌, ℕ, zero, suc, ◌+◌, ◌*◌, ◌/◌, ◌^◌, ◌<◌, ◌≤◌, List, [], ◌∷◌, ◌++◌, length, take, drop, get_or, refl, sym, ap, ◌∙◌, subst, arith, append_assoc, length-append}
+use Rattle.std.proofs.Common.{◌≡◌, ℕ, ◌+◌, ◌*◌, ◌/◌, ◌^◌, ◌<◌, ◌≤◌, List, [], ◌∷◌, ◌++◌, length, take, drop, get_or, refl, sym, ap, ◌∙◌, subst, arith, append_assoc, length-append}
 use Rattle.std.proofs.lemmas.List.{append-nil, take-append-drop}
 use Rattle.ev_graph.specs.declared.events.TrapKind.TheVariants.{BadReturn}
 use Rattle.a64_code.specs.declared.instr.XReg.{XReg}
@@ -8,7 +8,7 @@ use Rattle.a64_code.specs.declared.instr.A64.TheVariants as words
 use Rattle.a64_block.specs.Breaks.{break_of}
 use Rattle.a64_block.specs.declared.block.ABlock.{ABlock}
 use Rattle.code_layout.specs.Places.{block_size, blocks_size}
-use Rattle.code_layout.specs.Search.{Search, Nowhere, Leaf, Fork, search_size, Rise, IsSearchOf}
+use Rattle.code_layout.specs.Search.{Nowhere, Leaf, Fork, search_size, Rise}
 use Rattle.code_layout.specs.Code.{leaf_words, fork_words, search_words, end_words, block_words, blocks_words, AppendsSearch}
 use Rattle.code_layout.proofs.Searches.{length-search_words}
 use Rattle.code_layout.proofs.Sizes.{blocks_size-cons, length-blocks_words}

@@ -1,5 +1,5 @@
 -- The words of a tree of sites go to the site that X16 holds, or end by BadReturn.
-use Rattle.std.proofs.Common.{◌≡◌, ◌≢◌, ℕ, ◌+◌, ◌*◌, ◌^◌, ◌<◌, ◌≤◌, ◌==◌, Bool, true, false, not, List, [], ◌∷◌, ◌++◌, length, Some, refl, sym, ap, ◌∙◌, subst, arith, length-append}
+use Rattle.std.proofs.Common.{◌≡◌, ℕ, ◌+◌, ◌*◌, ◌^◌, ◌<◌, ◌==◌, Bool, true, false, not, List, [], ◌∷◌, ◌++◌, length, Some, refl, sym, ap, ◌∙◌, subst, arith, length-append}
 use Rattle.std.specs.Prelude.{if◌then◌else◌, nat_lt, pos, max}
 use Rattle.std.proofs.lemmas.Bool.{eqb-true}
 use Rattle.ev_graph.specs.declared.events.End.TheVariants.{Trap}
@@ -9,17 +9,16 @@ use Rattle.behavior.specs.Acts.{Permission}
 use Rattle.a64_code.specs.declared.instr.XReg.{XReg}
 use Rattle.a64_code.specs.declared.instr.A64.{A64}
 use Rattle.a64_code.specs.declared.instr.A64.TheVariants as words
-use Rattle.a64_table.specs.declared.state.Done.{Done}
-use Rattle.a64_table.specs.State.{xregs, AState, value, after}
+use Rattle.a64_table.specs.State.{AState}
 use Rattle.a64_table.specs.Values.{holds}
 use Rattle.a64_table.specs.Rows.{jumps}
 use Rattle.a64_table.specs.Machine.{AThread, a64_take, a64_step}
 use Rattle.a64_table.proofs.CallerLemmas.{instr_at, StandAt}
 use Rattle.a64_block.specs.Breaks.{break_of}
 use Rattle.code_layout.specs.Search.{Search, Nowhere, Leaf, Fork, finds, search_size, depth, Fits}
-use Rattle.code_layout.specs.Code.{x, not_equal, lower, jump, compare_words, search_words}
-use Rattle.code_layout.proofs.Comes.{Comes, comes_last, comes_more, comes_wider}
-use Rattle.code_layout.proofs.Moves.{Others, others_on, moved_on, moved_next, thread, comes_on, comes_there, comes_jump, jumps_on, compare_on}
+use Rattle.code_layout.specs.Code.{not_equal, lower, jump, search_words}
+use Rattle.code_layout.proofs.Comes.{Comes, comes_last, comes_wider}
+use Rattle.code_layout.proofs.Moves.{Others, others_on, moved_on, moved_next, thread, comes_on, comes_jump, jumps_on, compare_on}
 
 -- the parts of words that stand stand
 pub stand_first : (first : ℕ) (code : List ℕ) (at : ℕ) (ws vs : List (A64 XReg)) → StandAt first code at (ws ++ vs) → StandAt first code at ws

@@ -1,5 +1,5 @@
 -- How many words there are, and that all of them can be encoded.
-use Rattle.std.proofs.Common.{◌≡◌, ◌≢◌, ◌⊎◌, ℕ, suc, ◌+◌, ◌*◌, ◌%◌, ◌/◌, ◌^◌, ◌<◌, ◌≤◌, ◌==◌, Bool, true, false, List, [], ◌∷◌, ◌++◌, length, map, Some, refl, sym, ap, ◌∙◌, subst, arith, length-append, inl, inr}
+use Rattle.std.proofs.Common.{◌≡◌, ℕ, ◌+◌, ◌^◌, ◌<◌, ◌≤◌, ◌==◌, Bool, true, false, List, [], ◌∷◌, ◌++◌, length, refl, ap, ◌∙◌, arith, length-append, inl, inr}
 use Rattle.std.specs.Prelude.{if◌then◌else◌, pos, ◌-ℤ◌}
 use Rattle.std.specs.List.{AllByRecursion}
 use Rattle.std.proofs.lemmas.Int.{ints}
@@ -8,7 +8,6 @@ use Rattle.ev_graph.specs.declared.events.TrapKind.{TrapKind}
 use Rattle.ev_graph.specs.declared.events.TrapKind.TheVariants.{Divide, Invalid, BadReturn, BadJump, BadAccess}
 use Rattle.behavior.proofs.Lists.{all_append}
 use Rattle.a64_code.specs.declared.instr.XReg.{XReg}
-use Rattle.a64_code.specs.declared.instr.A64.{A64}
 use Rattle.a64_code.specs.declared.instr.A64.TheVariants as words
 use Rattle.a64_code.specs.Ranges.{IsRegister, IsEncodable, IsDistance}
 use Rattle.a64_block.specs.Breaks.{break_of}
@@ -76,9 +75,19 @@ quarter_below : (v k : ℕ) → quarter_of v k < 2 ^ 16
 quarter_below v k = omega arith
 
 compare_encodable : (v : ℕ) → AllByRecursion IsEncodable (compare_words v)
-compare_encodable v =
-    ((register_17, (quarter_below v 0, omega arith)), ((register_17, (quarter_below v 1, omega arith)), ((register_17, (quarter_below v 2, omega arith)), ((register_17, (quarter_below v 3, omega arith)),
-    ((inr refl, inl register_16, inl register_17, (omega arith, omega arith)), tt)))))
+compare_encodable v = (
+  (register_17, (quarter_below v 0, omega arith)),
+  (
+    (register_17, (quarter_below v 1, omega arith)),
+    (
+      (register_17, (quarter_below v 2, omega arith)),
+      (
+        (register_17, (quarter_below v 3, omega arith)),
+        ((inr refl, inl register_16, inl register_17, (omega arith, omega arith)), tt),
+      ),
+    ),
+  ),
+)
 
 two_on : IsDistance 19 (pos 2)
 two_on = (grind (arith, ints), grind (arith, ints))

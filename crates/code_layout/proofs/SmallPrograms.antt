@@ -1,19 +1,15 @@
 -- The small programs of the tests can be laid out.
-use Rattle.std.proofs.Common.{◌≡◌, ◌≢◌, ◌⊎◌, ℕ, zero, suc, ◌+◌, ◌<◌, ◌≤◌, true, List, [], ◌∷◌, length, refl, sym, ap, ◌∙◌, subst, arith, inl, inr}
-use Rattle.std.specs.Prelude.{pos}
+use Rattle.std.proofs.Common.{◌≡◌, ◌≢◌, ℕ, ◌<◌, true, List, [], ◌∷◌, refl, sym, ap, ◌∙◌, subst, arith, inr}
 use Rattle.std.specs.List.{AllByRecursion}
-use Rattle.ev_graph.specs.declared.events.TrapKind.{TrapKind}
 use Rattle.ev_graph.specs.declared.events.TrapKind.TheVariants.{Invalid, BadAccess}
 use Rattle.a64_code.specs.declared.instr.XReg.{XReg}
-use Rattle.a64_code.specs.declared.instr.A64.{A64}
 use Rattle.a64_code.specs.declared.instr.A64.TheVariants as words
 use Rattle.a64_code.specs.Ranges.{IsRegister}
 use Rattle.a64_block.specs.Conditions.{end_operands, IsLayable}
 use Rattle.a64_block.specs.declared.block.AEnd.{AEnd}
 use Rattle.a64_block.specs.declared.block.AEnd.TheVariants as ends
 use Rattle.a64_block.specs.declared.block.ABlock.{ABlock}
-use Rattle.code_layout.specs.Places.{IsBegun}
-use Rattle.code_layout.specs.Conditions.{LeadsToBlocks, AreClosed, AreBegun}
+use Rattle.code_layout.specs.Conditions.{AreClosed, AreBegun}
 use Rattle.code_layout.specs.Code.{x}
 use Rattle.code_layout.proofs.Literals.{begun_of, closed_of}
 
@@ -45,10 +41,13 @@ x_0 : IsRegister (x 0)
 x_0 = register 0 (omega arith) (λ e. absurd (omega (arith, e)))
 
 loop_closed : AreClosed loop_list
-loop_closed = closed_of loop_list
-    (record { encodable = ((x_0, (omega arith, omega arith)), tt); ends = tt; forward = (tt, tt); inside = (omega arith, tt) },
-    (record { encodable = ((x_0, x_0, omega arith), tt); ends = (x_0, tt); forward = (tt, tt); inside = (omega arith, tt) },
-    (record { encodable = (tt, tt); ends = tt; forward = (tt, tt); inside = (omega arith, tt) }, tt)))
+loop_closed = closed_of loop_list (
+  record { encodable = ((x_0, (omega arith, omega arith)), tt); ends = tt; forward = (tt, tt); inside = (omega arith, tt) },
+  (
+    record { encodable = ((x_0, x_0, omega arith), tt); ends = (x_0, tt); forward = (tt, tt); inside = (omega arith, tt) },
+    (record { encodable = (tt, tt); ends = tt; forward = (tt, tt); inside = (omega arith, tt) }, tt),
+  ),
+)
     ((loop_again, (1, refl), refl), (((loop_again, (1, refl), refl), (loop_behind, (2, refl), refl)), (not_access, tt)))
     ((omega arith, (omega arith, tt)), ((omega arith, tt), (tt, tt)))
 
@@ -80,9 +79,16 @@ x_23 : IsRegister (x 23)
 x_23 = register 23 (omega arith) (λ e. absurd (omega (arith, e)))
 
 call_closed : AreClosed call_list
-call_closed = closed_of call_list
-    (bare (ends.Goto 0x401020) tt, (bare (ends.Goto 0x401020) tt, (bare (ends.Stop Invalid) tt,
-    (record { encodable = ((inr (inr (inr refl)), x_23, x_4, omega arith), tt); ends = (x_23, tt); forward = (tt, tt); inside = (omega arith, tt) }, tt))))
+call_closed = closed_of call_list (
+  bare (ends.Goto 0x401020) tt,
+  (
+    bare (ends.Goto 0x401020) tt,
+    (
+      bare (ends.Stop Invalid) tt,
+      (record { encodable = ((inr (inr (inr refl)), x_23, x_4, omega arith), tt); ends = (x_23, tt); forward = (tt, tt); inside = (omega arith, tt) }, tt),
+    ),
+  ),
+)
     ((call_called, (3, refl), refl), ((call_called, (3, refl), refl), (not_access, (tt, tt))))
     ((omega arith, (omega arith, (omega arith, tt))), ((omega arith, (omega arith, tt)), ((omega arith, tt), (tt, tt))))
 

@@ -1,5 +1,5 @@
 -- The threads of a program whose blocks are carried out do what the program's do.
-use Rattle.std.proofs.Common.{◌≡◌, ◌≢◌, ℕ, ◌+◌, ◌*◌, ◌≤◌, List, sym, ap, ◌∙◌, subst, arith}
+use Rattle.std.proofs.Common.{◌≡◌, ◌≢◌, ℕ, ◌+◌, ◌*◌, List, sym, ap, ◌∙◌, subst, arith}
 use Rattle.ev_graph.specs.Places.{StandsIn}
 use Rattle.ev_graph.specs.declared.events.Item.{Item}
 use Rattle.behavior.specs.Tree.{Tree, Begins, Next, ◌then◌}

@@ -1,6 +1,6 @@
 -- The words of blocks with their ends, one behind the other, and of the returns, which all blocks share. Words are counted
 -- from the first of the code on.
-use Rattle.std.specs.Prelude.{◌≡◌, ℕ, ◌+◌, ◌*◌, ◌/◌, ◌%◌, ◌^◌, true, ℤ, pos, ◌-ℤ◌, List, [], ◌∷◌, ◌++◌, length, map}
+use Rattle.std.specs.Prelude.{◌≡◌, ℕ, ◌+◌, ◌*◌, ◌/◌, ◌%◌, ◌^◌, true, pos, ◌-ℤ◌, List, [], ◌∷◌, ◌++◌, length, map}
 use Rattle.ev_graph.specs.declared.events.TrapKind.TheVariants.{BadReturn, BadJump}
 use Rattle.a64_code.specs.declared.instr.XReg.{XReg}
 use Rattle.a64_code.specs.declared.instr.A64.{A64}

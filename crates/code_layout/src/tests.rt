@@ -15,7 +15,9 @@ use std::alloc::Global;
 use std::test::Fail;
 
 const X0: XReg = XReg { number: 0 };
+
 const X4: XReg = XReg { number: 4 };
+
 const X23: XReg = XReg { number: 23 };
 
 fn block(
@@ -53,11 +55,7 @@ fn program(alloc: Global) -> Result<Elf, NoMemory>
 }
 
 /// The words of the image of these blocks.
-fn laid(
-    alloc: Global,
-    blocks: &[ABlock<XReg>],
-    sites: &[u64],
-) -> Result<List<u32>, NoMemory>
+fn laid(alloc: Global, blocks: &[ABlock<XReg>], sites: &[u64]) -> Result<List<u32>, NoMemory>
     requires closed { AreClosed blocks.now }
     requires threads { AreBegun blocks.now (0x401000 ∷ []) }
     requires sites { AreBegun blocks.now sites.now }
@@ -193,12 +191,7 @@ fn stop_blocks(alloc: Global) -> Result<Vec<ABlock<XReg>>, NoMemory>
     let divides = block(alloc, 0x401000, &[], AEnd::Stop(TrapKind::Divide))?;
     let invalid = block(alloc, 0x401001, &[], AEnd::Stop(TrapKind::Invalid))?;
     let returns = block(alloc, 0x401002, &[], AEnd::Stop(TrapKind::BadReturn))?;
-    let jumps = block(
-        alloc,
-        0x7FFF_1234_5678,
-        &[],
-        AEnd::Stop(TrapKind::BadJump),
-    )?;
+    let jumps = block(alloc, 0x7FFF_1234_5678, &[], AEnd::Stop(TrapKind::BadJump))?;
     Ok(Vec::from_array(alloc, [divides, invalid, returns, jumps])?)
 }
 

@@ -1,11 +1,10 @@
-use Rattle.std.proofs.Common.{◌≡◌, ◌≤◌, ◌^◌, ◌+◌, ◌*◌, ℕ, length, map, arith, refl, sym, subst, ap, ◌∙◌}
+use Rattle.std.proofs.Common.{◌≡◌, ◌^◌, ◌+◌, ◌*◌, ℕ, length, map, arith, refl, sym, subst, ap, ◌∙◌}
 use mathlib.Core.Path.{fun_ext}
 use Rattle.std.proofs.lemmas.List.{length-map}
-use Rattle.std.specs.Prelude.{filter}
 use Rattle.elf_read.specs.Elf.{parts_of, segment_part}
 use Rattle.elf_write.specs.Image.{image_part, kept, EndBefore, IsCodeAddress}
 use Rattle.elf_write.proofs.CallerLemmas.{kept_end_before, image_of_program}
-use Rattle.code_layout.specs.Places.{blocks_size, words_before, place_from, start_of, ArePlacesOf, AreTold}
+use Rattle.code_layout.specs.Places.{words_before, place_from, start_of, ArePlacesOf}
 use Rattle.cfg_walk.specs.Machine.{exits_of}
 use Rattle.code_layout.specs.Code.{IsLaidOut}
 use Rattle.code_layout.proofs.Starts.{told_is, are_told}

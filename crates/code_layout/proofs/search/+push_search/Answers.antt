@@ -1,8 +1,8 @@
-use Rattle.std.proofs.Common.{◌≡◌, ◌≤◌, ◌^◌, ◌<◌, ◌+◌, ◌*◌, ◌/◌, ◌++◌, length, get_or, take, drop, arith, rules, refl, sym, subst, ap, ◌∙◌}
+use Rattle.std.proofs.Common.{◌^◌, ◌<◌, ◌+◌, ◌*◌, ◌/◌, ◌++◌, length, get_or, arith, refl, ap, ◌∙◌}
 use Rattle.std.proofs.lemmas.Result.{on_ok_weaker}
 use Rattle.code_layout.specs.Places.{start_of}
 use Rattle.code_layout.specs.Code.{AppendsSearch, fork_words}
-use Rattle.code_layout.proofs.Pushed.{Halved, halved, rise_below, rise_above, room_fork, room_behind, forked_halves, leaf_appended}
+use Rattle.code_layout.proofs.Pushed.{halved, rise_below, rise_above, room_fork, room_behind, forked_halves, leaf_appended}
 use Rattle.code_layout.proofs.search.+push_search.Goals as goal
 
 pub push_search-requires : goal.push_search-requires
@@ -13,9 +13,16 @@ push_search-requires t c =
     let split = c.split_at.ensures in
     let halves = halved sites below above (grind arith) split.front split.back split.front_len split.back_len in
     let less = halves.less in
-    let all = halves.all in
-    (omega (arith, c.decreases, less), (c.requires.places, (rise_below sites below above halves c.requires.sites,
-    room_fork c.args.code.now.items c.push_fork.new.code.items below above _ _ 8388608 (omega (arith, less, all)) c.in_ok-push_fork.ensures (omega (arith, c.requires.few, all)))))
+    let all = halves.all in (
+      omega (arith, c.decreases, less),
+      (
+        c.requires.places,
+        (
+          rise_below sites below above halves c.requires.sites,
+          room_fork c.args.code.now.items c.push_fork.new.code.items below above _ _ 8388608 (omega (arith, less, all)) c.in_ok-push_fork.ensures (omega (arith, c.requires.few, all)),
+        ),
+      ),
+    )
 
 pub push_search-requires-2 : goal.push_search-requires-2
 push_search-requires-2 t c =
@@ -25,9 +32,16 @@ push_search-requires-2 t c =
     let split = c.split_at.ensures in
     let halves = halved sites below above (grind arith) split.front split.back split.front_len split.back_len in
     let some = halves.some in
-    let all = halves.all in
-    (omega (arith, c.decreases, some, all), (c.requires.places, (rise_above sites below above halves c.requires.sites,
-    room_behind (start_of c.args.places.now) c.args.code.now.items c.push_fork.new.code.items c.push_search.new.code.items below above _ _ 8388608 some c.in_ok-push_fork.ensures c.in_ok-push_search.ensures (omega (arith, c.requires.few, all)))))
+    let all = halves.all in (
+      omega (arith, c.decreases, some, all),
+      (
+        c.requires.places,
+        (
+          rise_above sites below above halves c.requires.sites,
+          room_behind (start_of c.args.places.now) c.args.code.now.items c.push_fork.new.code.items c.push_search.new.code.items below above _ _ 8388608 some c.in_ok-push_fork.ensures c.in_ok-push_search.ensures (omega (arith, c.requires.few, all)),
+        ),
+      ),
+    )
 
 pub returns : goal.returns
 returns t c =

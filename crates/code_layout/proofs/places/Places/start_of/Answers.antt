@@ -1,9 +1,9 @@
-use Rattle.std.proofs.Common.{◌≡◌, ◌≤◌, ◌^◌, get_or, sym, subst, ap, ◌∙◌, arith}
+use Rattle.std.proofs.Common.{◌≡◌, get_or, subst, ap, ◌∙◌}
 use Rattle.std.specs.List.Sorted.{IsBinarySearchResult}
 use Rattle.std.specs.Ordering.{nat_cmp}
 use Rattle.std.specs.Result.{MatchResult}
-use Rattle.code_layout.specs.Places.{start_in, start_of}
-use Rattle.code_layout.proofs.Starts.{start_searched, start_low}
+use Rattle.code_layout.specs.Places.{start_of}
+use Rattle.code_layout.proofs.Starts.{start_searched}
 use Rattle.code_layout.proofs.places.Places.start_of.Goals as goal
 
 pub returns-in-Ok-clause-value : goal.returns-in-Ok-clause-value
