@@ -113,7 +113,8 @@ module _ (may : Permission) (first : ℕ) (code : List ℕ) (blocks : List (ABlo
       (found (finds t v) v s u same refl next (subst (λ k. IsLookedUp may first code start are.starts_low (finds t k) k u next) held looked))))
       (comes_on may first code (words.Cbnz true (x 16) (pos 2)) (first + 4 * returns) (first + 4 * returns + 4 + 4) u (record { distance = pos 2; value = 0; nzcv = u.nzcv }) are.stand.0
       (ap (λ b. if b then jumps (pos 2) u.nzcv else jumps (pos 1) u.nzcv) test) (moved_on (first + 4 * returns) 2 here ∙ there)
-      (search_comes may first code start are.starts_low t (returns + 2) (first + 4 * returns + 4 + 4) u (omega arith) are.fits (subst (λ k. k < 2 ^ 64) (sym held) small) (omega (arith, room)) are.stand.1.1))
+      (search_comes may first code start are.starts_low t (returns + 2) (first + 4 * returns + 4 + 4) u (omega arith) are.fits (subst (λ k. k < 2 ^ 64) (sym held) small)
+      (omega (arith, room)) are.stand.1.1))
     where
       small_low : (v : ℕ) → v < 2 ^ 64 → low true v ≡ v
       small_low v small = omega (arith, small)
@@ -155,7 +156,8 @@ module _ (may : Permission) (first : ℕ) (code : List ℕ) (blocks : List (ABlo
       → Comes (a64_step may first code) 1 (thread may first code at s) (Lands (Stops (Trap kind)))
   stop_comes Divide at s other here = comes_last (a64_step may first code) (thread may first code at s) (Stops (Trap Divide)) (ap (λ o. a64_take may o (thread may first code at s)) here) both-stop
   stop_comes Invalid at s other here = comes_last (a64_step may first code) (thread may first code at s) (Stops (Trap Invalid)) (ap (λ o. a64_take may o (thread may first code at s)) here) both-stop
-  stop_comes BadReturn at s other here = comes_last (a64_step may first code) (thread may first code at s) (Stops (Trap BadReturn)) (ap (λ o. a64_take may o (thread may first code at s)) here) both-stop
+  stop_comes BadReturn at s other here = comes_last (a64_step may first code) (thread may first code at s) (Stops (Trap BadReturn))
+      (ap (λ o. a64_take may o (thread may first code at s)) here) both-stop
   stop_comes BadJump at s other here = comes_last (a64_step may first code) (thread may first code at s) (Stops (Trap BadJump)) (ap (λ o. a64_take may o (thread may first code at s)) here) both-stop
   stop_comes BadAccess at s other here = absurd (other refl)
 

@@ -22,7 +22,8 @@ use Rattle.code_layout.proofs.Sizes.{length-blocks_words, length-code_words, cod
 use Rattle.code_layout.proofs.Starts.{told_is}
 
 -- blocks behind nothing
-pub blocks_behind : (start : ℕ → ℕ) (returns : ℕ) (blocks : List (ABlock XReg)) (old new : List (A64 XReg)) → old ≡ [] → new ≡ old ++ blocks_words start returns (length old) blocks → new ≡ blocks_words start returns 0 blocks
+pub blocks_behind : (start : ℕ → ℕ) (returns : ℕ) (blocks : List (ABlock XReg)) (old new : List (A64 XReg)) → old ≡ [] → new ≡ old ++ blocks_words start returns (length old) blocks
+    → new ≡ blocks_words start returns 0 blocks
 blocks_behind start returns blocks old new none is = is ∙ ap (λ l. l ++ blocks_words start returns (length l) blocks) none
 
 -- blocks, and then the returns
@@ -46,7 +47,8 @@ all_encodable blocks sites new closed few (t, looks_up, is) =
     let small = looks_up.small in
     subst (AllByRecursion IsEncodable) (sym is) (code_encodable blocks t (all_stand (λ (c : ABlock XReg). IsLayable c.steps c.end) blocks closed.layable) (omega (arith, small, few)))
 
-pub laid_out : (blocks : List (ABlock XReg)) (sites words : List ℕ) (new : List (A64 XReg)) → (t : Search) × IsSearchOf sites t × (new ≡ code_words blocks t) → words ≡ map word_of new → IsLaidOut blocks sites words
+pub laid_out : (blocks : List (ABlock XReg)) (sites words : List ℕ) (new : List (A64 XReg)) → (t : Search) × IsSearchOf sites t × (new ≡ code_words blocks t) → words ≡ map word_of new
+    → IsLaidOut blocks sites words
 laid_out blocks sites words new (t, looks_up, is) same = record { search = t; looks_up = looks_up; are = same ∙ ap (map word_of) is }
 
 -- ---- a code that is laid out

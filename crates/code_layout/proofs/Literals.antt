@@ -29,7 +29,8 @@ increasing_of (x ∷ xs) rise (suc i) (suc j) a b less one two = increasing_of x
 pub begun_of : (bs : List (ABlock XReg)) (addresses : List ℕ) → AllByRecursion (IsBegun bs) addresses → AreBegun bs addresses
 begun_of bs addresses all a (i, at) = all_at (IsBegun bs) addresses i a all at
 
-pub closed_of : (bs : List (ABlock XReg)) → AllByRecursion (λ (b : ABlock XReg). IsLayable b.steps b.end) bs → AllByRecursion (λ (b : ABlock XReg). LeadsToBlocks bs b.end) bs → Rise (firsts bs) → AreClosed bs
+pub closed_of : (bs : List (ABlock XReg)) → AllByRecursion (λ (b : ABlock XReg). IsLayable b.steps b.end) bs → AllByRecursion (λ (b : ABlock XReg). LeadsToBlocks bs b.end) bs → Rise (firsts bs)
+    → AreClosed bs
 closed_of bs layable leads rise = record {
   layable = λ b at. all_at (λ (c : ABlock XReg). IsLayable c.steps c.end) bs at.0 b layable at.1;
   leads = λ b at. all_at (λ (c : ABlock XReg). LeadsToBlocks bs c.end) bs at.0 b leads at.1;

@@ -41,7 +41,8 @@ module _ (seen : List Item → List Item) (sees : SeesByParts seen) {S T : Type 
     forth_cut : (made to : List Item) (n m : ℕ) (o : Point (Next T)) → Path (Begins pair.to) to o m → seen to ≡ seen made → m ≤ rate * n + 0 → SamePoint (SameNext Same) Cut o → Forth t made Running n
     forth_cut made to n m o path same few both-cut = (to, m, target_run (from-cut path), same, omega (arith, few))
 
-    forth_stop : (made to : List Item) (n m : ℕ) (end : End) (o : Point (Next T)) → Path (Begins pair.to) to o m → seen to ≡ seen made → m ≤ rate * n + 0 → SamePoint (SameNext Same) (At (Stops end)) o → Forth t made end n
+    forth_stop : (made to : List Item) (n m : ℕ) (end : End) (o : Point (Next T)) → Path (Begins pair.to) to o m → seen to ≡ seen made → m ≤ rate * n + 0
+        → SamePoint (SameNext Same) (At (Stops end)) o → Forth t made end n
     forth_stop made to n m end o path same few (both-at both-stop) = (to, m, target_run (from-stop path), same, omega (arith, few))
 
     forth_go : (made rest all to : List Item) (r : S) (end : End) (n m total k : ℕ) (o : Point (Next T)) → Path (Begins pair.to) to o k → seen to ≡ seen made → k ≤ rate * n + 0
@@ -69,7 +70,8 @@ module _ (seen : List Item → List Item) (sees : SeesByParts seen) {S T : Type 
     back_cut : (made from : List Item) (n : ℕ) (i : Point (Next S)) → Path (Begins pair.of) from i n → seen from ≡ seen made → SamePoint (SameNext Same) i Cut → Back s made Running
     back_cut made from n i path same both-cut = (from, n, source_run (from-cut path), same)
 
-    back_stop : (made from : List Item) (n : ℕ) (end : End) (i : Point (Next S)) → Path (Begins pair.of) from i n → seen from ≡ seen made → SamePoint (SameNext Same) i (At (Stops end)) → Back s made end
+    back_stop : (made from : List Item) (n : ℕ) (end : End) (i : Point (Next S)) → Path (Begins pair.of) from i n → seen from ≡ seen made → SamePoint (SameNext Same) i (At (Stops end))
+        → Back s made end
     back_stop made from n end i path same (both-at both-stop) = (from, n, source_run (from-stop path), same)
 
     back_go : (made rest all from : List Item) (u : T) (end : End) (n : ℕ) (i : Point (Next S)) → Path (Begins pair.of) from i n → seen from ≡ seen made

@@ -127,7 +127,8 @@ module _ (may : Permission) (first : ℕ) (code : List ℕ) where
       let none = quarter_of v 0 * 2 ^ (16 * 0) in
       let base : none ≡ quarter_of v 0 = omega arith in
       comes_on (words.Movz true (x 17) (quarter_of v 0) 0) at (at + 4) s (record { distance = pos 1; value = none; nzcv = s.nzcv }) zero_at refl (moved_next at (omega (arith, room)))
-      (quarter_on 1 v (quarter_of v 0) (v % 2 ^ 32) (at + 4) s (record { regs = put 17 none s.regs; nzcv = s.nzcv }) (omega (arith, room)) (part_1 v) one_at base (λ n key zero. put_other 17 none s.regs n key)
+      (quarter_on 1 v (quarter_of v 0) (v % 2 ^ 32) (at + 4) s (record { regs = put 17 none s.regs; nzcv = s.nzcv }) (omega (arith, room)) (part_1 v) one_at base
+      (λ n key zero. put_other 17 none s.regs n key)
       (λ t1 held1 others1. quarter_on 2 v (v % 2 ^ 32) (v % 2 ^ 48) (at + 4 + 4) s t1 (omega (arith, room)) (part_2 v) two_at held1 others1
       (λ t2 held2 others2. quarter_on 3 v (v % 2 ^ 48) v (at + 4 + 4 + 4) s t2 (omega (arith, room)) (part_3 v fits) three_at held2 others2
       (λ t3 held3 others3. compared t3 held3 others3))))
@@ -139,7 +140,8 @@ module _ (may : Permission) (first : ℕ) (code : List ℕ) where
           let sixteen : t.regs 16 ≡ s.regs 16 = others 16 (λ e. absurd (omega (arith, e))) (λ e. absurd (omega (arith, e))) in
           let a_is : a ≡ s.regs 16 = ap (low true) sixteen ∙ small_low (s.regs 16) small in
           let b_is : b ≡ v = ap (shifted true 0 0) held ∙ small_shifted v fits in
-          comes_on (words.Subs true (x 31) (x 16) (x 17) 0 0) (at + 4 + 4 + 4 + 4) (at + 4 + 4 + 4 + 4 + 4) t (record { distance = pos 1; value = subs_value 64 a b; nzcv = subs_flags 64 a b }) compared_at refl
+          comes_on (words.Subs true (x 31) (x 16) (x 17) 0 0) (at + 4 + 4 + 4 + 4) (at + 4 + 4 + 4 + 4 + 4) t
+          (record { distance = pos 1; value = subs_value 64 a b; nzcv = subs_flags 64 a b }) compared_at refl
           (moved_next (at + 4 + 4 + 4 + 4) (omega (arith, room)))
           (later (record { regs = put 31 (subs_value 64 a b) t.regs; nzcv = subs_flags 64 a b })
           (λ n key zero. put_other 31 (subs_value 64 a b) t.regs n zero ∙ others n key zero)

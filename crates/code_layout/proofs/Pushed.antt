@@ -21,7 +21,8 @@ pub blocks_words-push : (start : ℕ → ℕ) (returns at : ℕ) (bs : List (ABl
 blocks_words-push start returns at [] b = let e : at ≡ at + 0 = omega arith in append-nil (block_words start returns at b) ∙ ap (λ n. block_words start returns n b) e
 blocks_words-push start returns at (c ∷ bs) b =
     let e : at + block_size c + blocks_size bs ≡ at + blocks_size (c ∷ bs) = omega (arith, blocks_size-cons c bs) in
-    ap (λ l. block_words start returns at c ++ l) (blocks_words-push start returns (at + block_size c) bs b ∙ ap (λ n. blocks_words start returns (at + block_size c) bs ++ block_words start returns n b) e)
+    ap (λ l. block_words start returns at c ++ l) (blocks_words-push start returns (at + block_size c) bs b ∙ ap
+    (λ n. blocks_words start returns (at + block_size c) bs ++ block_words start returns n b) e)
     ∙ sym (append_assoc (block_words start returns at c) (blocks_words start returns (at + block_size c) bs) (block_words start returns (at + blocks_size (c ∷ bs)) b))
 
 -- a fork, the words of one half, and those of the other
@@ -38,7 +39,8 @@ forked start old mid one two xs key ys rise fits some le near fork (below, looks
     let at_below : length mid ≡ n + 7 = ap length fork_is ∙ length-append old words ∙ omega arith in
     let one_here : one ≡ mid ++ search_words start (n + 7) below = one_is ∙ ap (λ k. mid ++ search_words start k below) at_below in
     let at_above : length one ≡ n + 7 + search_size below =
-    ap length one_here ∙ length-append mid (search_words start (n + 7) below) ∙ ap (λ k. k + length (search_words start (n + 7) below)) at_below ∙ ap (λ k. n + 7 + k) (length-search_words start (n + 7) below) in
+    ap length one_here ∙ length-append mid (search_words start (n + 7) below) ∙ ap (λ k. k + length (search_words start (n + 7) below)) at_below ∙ ap (λ k. n + 7 + k)
+    (length-search_words start (n + 7) below) in
     let two_here : two ≡ one ++ search_words start (n + 7 + search_size below) above = two_is ∙ ap (λ k. one ++ search_words start k above) at_above in (
       Fork key below above,
       fork_looks_up xs key ys rise below above looks_below looks_above fits some le near,
@@ -140,7 +142,8 @@ block_appended start returns old before mid after bs b is steps fin =
     ∙ append_assoc before b.steps (end_words start returns (n + length b.steps) b.end) ∙ ap (λ l. l ++ block_words start returns n b) is
     ∙ append_assoc old (blocks_words start returns (length old) bs) (block_words start returns n b) ∙ ap (λ l. old ++ l) (sym (blocks_words-push start returns (length old) bs b))
 
-pub room_for_end : (start : ℕ → ℕ) (returns : ℕ) (old before mid : List (A64 XReg)) (bs blocks : List (ABlock XReg)) (b : ABlock XReg) (most : ℕ) → before ≡ old ++ blocks_words start returns (length old) bs
+pub room_for_end : (start : ℕ → ℕ) (returns : ℕ) (old before mid : List (A64 XReg)) (bs blocks : List (ABlock XReg)) (b : ABlock XReg) (most : ℕ)
+    → before ≡ old ++ blocks_words start returns (length old) bs
     → mid ≡ before ++ b.steps → blocks_size (bs ++ b ∷ []) ≤ blocks_size blocks → length old + blocks_size blocks ≤ most → length mid ≤ most
 room_for_end start returns old before mid bs blocks b most is steps within few =
     let at_block = ap length is ∙ length-append old (blocks_words start returns (length old) bs) in

@@ -39,7 +39,8 @@ length-search_words start at (Fork site below above) =
     let one = length-search_words start (at + 7) below in
     let two = length-search_words start (at + 7 + search_size below) above in
     let all : length (search_words start (at + 7) below ++ search_words start (at + 7 + search_size below) above) ≡ search_size below + search_size above =
-    length-append (search_words start (at + 7) below) (search_words start (at + 7 + search_size below) above) ∙ ap (λ n. n + length (search_words start (at + 7 + search_size below) above)) one ∙ ap (λ n. search_size below + n) two in
+    length-append (search_words start (at + 7) below) (search_words start (at + 7 + search_size below) above) ∙ ap (λ n. n + length (search_words start (at + 7 + search_size below) above)) one
+    ∙ ap (λ n. search_size below + n) two in
     omega (arith, all)
 
 module _ (may : Permission) (first : ℕ) (code : List ℕ) (start : ℕ → ℕ) (low : (a : ℕ) → first + 4 * start a < 2 ^ 63) where
@@ -53,21 +54,26 @@ module _ (may : Permission) (first : ℕ) (code : List ℕ) (start : ℕ → ℕ
   looked_from false address s u others next stops = stops
 
   -- the break of a return that is none
-  missed : (b : Bool) (address at : ℕ) (s : AState) → b ≡ false → instr_at first code at ≡ Some (words.Brk (break_of BadReturn)) → Comes (a64_step may first code) 1 (thread may first code at s) (IsLookedUp b address s)
+  missed : (b : Bool) (address at : ℕ) (s : AState) → b ≡ false → instr_at first code at ≡ Some (words.Brk (break_of BadReturn))
+      → Comes (a64_step may first code) 1 (thread may first code at s) (IsLookedUp b address s)
   missed b address at s none here = comes_last (a64_step may first code) (thread may first code at s) (Stops (Trap BadReturn)) (ap (λ o. a64_take may o (thread may first code at s)) here)
       (subst (λ p. IsLookedUp p address s (Stops (Trap BadReturn))) (sym none) refl)
 
   -- a conditional branch over one word, taken or not
-  pub branch_taken : {P : Next AThread → Type 0} {most : ℕ} (condition at : ℕ) (s : AState) → at + 8 < 2 ^ 63 → holds condition s.nzcv ≡ true → instr_at first code at ≡ Some (words.BCond condition (pos 2))
+  pub branch_taken : {P : Next AThread → Type 0} {most : ℕ} (condition at : ℕ) (s : AState) → at + 8 < 2 ^ 63 → holds condition s.nzcv ≡ true
+      → instr_at first code at ≡ Some (words.BCond condition (pos 2))
       → Comes (a64_step may first code) most (thread may first code (at + 4 + 4) s) P → Comes (a64_step may first code) (1 + most) (thread may first code at s) P
   branch_taken condition at s room test here later =
       let there : at + 4 * 2 ≡ at + 4 + 4 = omega arith in
-      comes_on may first code (words.BCond condition (pos 2)) at (at + 4 + 4) s (record { distance = pos 2; value = 0; nzcv = s.nzcv }) here (ap (λ b. if b then jumps (pos 2) s.nzcv else jumps (pos 1) s.nzcv) test) (moved_on at 2 (omega (arith, room)) ∙ there) later
+      comes_on may first code (words.BCond condition (pos 2)) at (at + 4 + 4) s (record { distance = pos 2; value = 0; nzcv = s.nzcv }) here
+      (ap (λ b. if b then jumps (pos 2) s.nzcv else jumps (pos 1) s.nzcv) test) (moved_on at 2 (omega (arith, room)) ∙ there) later
 
-  pub branch_passed : {P : Next AThread → Type 0} {most : ℕ} (condition at : ℕ) (s : AState) → at + 8 < 2 ^ 63 → holds condition s.nzcv ≡ false → instr_at first code at ≡ Some (words.BCond condition (pos 2))
+  pub branch_passed : {P : Next AThread → Type 0} {most : ℕ} (condition at : ℕ) (s : AState) → at + 8 < 2 ^ 63 → holds condition s.nzcv ≡ false
+      → instr_at first code at ≡ Some (words.BCond condition (pos 2))
       → Comes (a64_step may first code) most (thread may first code (at + 4) s) P → Comes (a64_step may first code) (1 + most) (thread may first code at s) P
   branch_passed condition at s room test here later =
-      comes_on may first code (words.BCond condition (pos 2)) at (at + 4) s (record { distance = pos 1; value = 0; nzcv = s.nzcv }) here (ap (λ b. if b then jumps (pos 2) s.nzcv else jumps (pos 1) s.nzcv) test) (moved_next at (omega (arith, room))) later
+      comes_on may first code (words.BCond condition (pos 2)) at (at + 4) s (record { distance = pos 1; value = 0; nzcv = s.nzcv }) here
+      (ap (λ b. if b then jumps (pos 2) s.nzcv else jumps (pos 1) s.nzcv) test) (moved_next at (omega (arith, room))) later
 
   -- a leaf, by whether X16 is its site
   leaf_comes : (site address n at : ℕ) (s : AState) (b : Bool) → (address == site) ≡ b → at ≡ first + 4 * n → at + 12 < 2 ^ 63 → holds not_equal s.nzcv ≡ not b
@@ -102,7 +108,8 @@ module _ (may : Permission) (first : ℕ) (code : List ℕ) (start : ℕ → ℕ
   -- behind the comparison of a fork
   fork_branches : (site : ℕ) (below above : Search) → Searches below → Searches above → (n at : ℕ) (s t : AState) → at ≡ first + 4 * n → Fits below → Fits above → s.regs 16 < 2 ^ 64
       → at + 4 * (7 + (search_size below + search_size above)) < 2 ^ 63 → Others s t → (b : Bool) → nat_lt (s.regs 16) site ≡ b → holds lower t.nzcv ≡ nat_lt (s.regs 16) site
-      → StandAt first code (behind_compare at) (words.BCond lower (pos 2) ∷ jump (n + 6) (n + 7 + search_size below) ∷ (search_words start (n + 7) below ++ search_words start (n + 7 + search_size below) above))
+      → StandAt first code (behind_compare at) (words.BCond lower (pos 2) ∷ jump (n + 6) (n + 7 + search_size below) ∷
+      (search_words start (n + 7) below ++ search_words start (n + 7 + search_size below) above))
       → Comes (a64_step may first code) (2 + max (depth below) (depth above)) (thread may first code (behind_compare at) t)
       (IsLookedUp (if nat_lt (s.regs 16) site then finds below (s.regs 16) else finds above (s.regs 16)) (s.regs 16) s)
   fork_branches site below above to_below to_above n at s t place fits_below fits_above small room others true is less rest =
@@ -132,7 +139,8 @@ module _ (may : Permission) (first : ℕ) (code : List ℕ) (start : ℕ → ℕ
   fork_searches site below above to_below to_above n at s place fits small room stand =
       comes_wider (a64_step may first code) (depth (Fork site below above)) (thread may first code at s) (omega arith) (λ next there. there)
       (compare_on may first code site at
-      (words.BCond lower (pos 2) ∷ jump (n + 6) (n + 7 + search_size below) ∷ (search_words start (n + 7) below ++ search_words start (n + 7 + search_size below) above)) s fits.0 small (omega (arith, room)) stand
+      (words.BCond lower (pos 2) ∷ jump (n + 6) (n + 7 + search_size below) ∷ (search_words start (n + 7) below ++ search_words start (n + 7 + search_size below) above)) s fits.0 small
+      (omega (arith, room)) stand
       (λ t others equal less rest. fork_branches site below above to_below to_above n at s t place fits.1 fits.2 small room others (nat_lt (s.regs 16) site) refl less rest))
 
   pub search_comes : (t : Search) → Searches t

@@ -105,7 +105,8 @@ search_encodable : (start : ℕ → ℕ) → ((a : ℕ) → start a ≤ 2 ^ 24) 
 search_encodable start starts Nowhere at room = ((omega arith, omega arith), tt)
 search_encodable start starts (Leaf site) at room = leaf_encodable at site (start site) (omega (arith, room)) (starts site)
 search_encodable start starts (Fork site below above) at room =
-    all_append IsEncodable (fork_words at site (at + 7 + search_size below)) (search_words start (at + 7) below ++ search_words start (at + 7 + search_size below) above) (fork_encodable at site (at + 7 + search_size below) (omega (arith, room)) (omega (arith, room)))
+    all_append IsEncodable (fork_words at site (at + 7 + search_size below)) (search_words start (at + 7) below ++ search_words start (at + 7 + search_size below) above)
+    (fork_encodable at site (at + 7 + search_size below) (omega (arith, room)) (omega (arith, room)))
     (all_append IsEncodable (search_words start (at + 7) below) (search_words start (at + 7 + search_size below) above) (search_encodable start starts below (at + 7) (omega (arith, room)))
     (search_encodable start starts above (at + 7 + search_size below) (omega (arith, room))))
 
@@ -136,12 +137,14 @@ blocks_encodable start returns at [] starts low room layable = tt
 blocks_encodable start returns at (b ∷ bs) starts low room layable =
     let size = blocks_size-cons b bs in
     all_append IsEncodable (block_words start returns at b) (blocks_words start returns (at + block_size b) bs)
-    (all_append IsEncodable b.steps (end_words start returns (at + length b.steps) b.end) layable.0.encodable (end_encodable start returns (at + length b.steps) b.end starts low (omega (arith, room, size)) layable.0.ends))
+    (all_append IsEncodable b.steps (end_words start returns (at + length b.steps) b.end) layable.0.encodable
+    (end_encodable start returns (at + length b.steps) b.end starts low (omega (arith, room, size)) layable.0.ends))
     (blocks_encodable start returns (at + block_size b) bs starts low (omega (arith, room, size)) layable.1)
 
 -- all words of the code
 pub code_encodable : (blocks : List (ABlock XReg)) (t : Search) → AreLayable blocks → blocks_size blocks + 2 + search_size t ≤ 2 ^ 24 → AllByRecursion IsEncodable (code_words blocks t)
 code_encodable blocks t layable room =
     let starts : (a : ℕ) → words_before blocks a ≤ 2 ^ 24 = λ a. let le = words_before_le blocks a in omega (arith, le, room) in
-    all_append IsEncodable (blocks_words (words_before blocks) (blocks_size blocks) 0 blocks) (return_words (words_before blocks) (blocks_size blocks) t) (blocks_encodable (words_before blocks) (blocks_size blocks) 0 blocks starts (omega (arith, room)) (omega (arith, room)) layable)
+    all_append IsEncodable (blocks_words (words_before blocks) (blocks_size blocks) 0 blocks) (return_words (words_before blocks) (blocks_size blocks) t)
+    (blocks_encodable (words_before blocks) (blocks_size blocks) 0 blocks starts (omega (arith, room)) (omega (arith, room)) layable)
     ((register_16, two_on), ((omega arith, omega arith), search_encodable (words_before blocks) starts t (blocks_size blocks + 2) room))

@@ -51,9 +51,11 @@ loop_closed = closed_of loop_list (
     ((loop_again, (1, refl), refl), (((loop_again, (1, refl), refl), (loop_behind, (2, refl), refl)), (not_access, tt)))
     ((omega arith, (omega arith, tt)), ((omega arith, tt), (tt, tt)))
 
-pub loop_is_closed : (before again behind : ABlock XReg) (items : List (ABlock XReg)) → before ≡ loop_before → again ≡ loop_again → behind ≡ loop_behind → items ≡ before ∷ again ∷ behind ∷ [] → AreClosed items
+pub loop_is_closed : (before again behind : ABlock XReg) (items : List (ABlock XReg)) → before ≡ loop_before → again ≡ loop_again → behind ≡ loop_behind → items ≡ before ∷ again ∷ behind ∷ []
+    → AreClosed items
 loop_is_closed before again behind items one two three all =
-    subst AreClosed (sym (all ∙ ap (λ (b : ABlock XReg). b ∷ again ∷ behind ∷ []) one ∙ ap (λ (b : ABlock XReg). loop_before ∷ b ∷ behind ∷ []) two ∙ ap (λ (b : ABlock XReg). loop_before ∷ loop_again ∷ b ∷ []) three)) loop_closed
+    subst AreClosed (sym (all ∙ ap (λ (b : ABlock XReg). b ∷ again ∷ behind ∷ []) one ∙ ap (λ (b : ABlock XReg). loop_before ∷ b ∷ behind ∷ []) two ∙ ap
+    (λ (b : ABlock XReg). loop_before ∷ loop_again ∷ b ∷ []) three)) loop_closed
 
 -- ---- two calls of a function
 

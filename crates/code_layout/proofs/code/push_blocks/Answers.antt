@@ -13,7 +13,8 @@ push_end-requires-clause-few c =
     let block = c.block-item.result in
     let more : take (i + 1) blocks ≡ take i blocks ++ block ∷ [] = take_more blocks i block c.loop-block-test.true ∙ ap (λ b. take i blocks ++ b ∷ []) (sym c.block-item.is) in
     let steps : c.extend_from_slice.new.self.items ≡ c.loop-block.code.items ++ block.steps = search rules in
-    room_for_end (start_of c.args.places.now) c.args.places.now.end c.args.code.now.items c.loop-block.code.items c.extend_from_slice.new.self.items (take i blocks) blocks block 8388608 c.loop-block.invariant steps
+    room_for_end (start_of c.args.places.now) c.args.places.now.end c.args.code.now.items c.loop-block.code.items c.extend_from_slice.new.self.items
+    (take i blocks) blocks block 8388608 c.loop-block.invariant steps
     (subst (λ l. blocks_size l ≤ blocks_size blocks) more (sum_by-take-le block_size blocks (i + 1))) c.requires.few
 
 pub loop-block-preserved : goal.loop-block-preserved
@@ -25,5 +26,6 @@ loop-block-preserved c =
     let steps : c.extend_from_slice.new.self.items ≡ c.loop-block.code.items ++ block.steps = search rules in
     let start = start_of c.args.places.now in
     let returns = c.args.places.now.end in
-    block_appended start returns c.args.code.now.items c.loop-block.code.items c.extend_from_slice.new.self.items c.push_end.new.code.items (take i blocks) block c.loop-block.invariant steps c.in_ok-push_end.ensures
+    block_appended start returns c.args.code.now.items c.loop-block.code.items c.extend_from_slice.new.self.items c.push_end.new.code.items
+    (take i blocks) block c.loop-block.invariant steps c.in_ok-push_end.ensures
     ∙ ap (λ l. c.args.code.now.items ++ blocks_words start returns (length c.args.code.now.items) l) (sym more)

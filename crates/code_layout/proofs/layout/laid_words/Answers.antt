@@ -35,7 +35,8 @@ encoded-requires c =
     let places = c.args.places.now in
     let mid = blocks_behind (start_of places) places.end blocks c.new-code.result.items c.push_blocks.new.code.items c.new-code.ensures.items c.in_ok-push_blocks.ensures in
     subst (AllByRecursion IsEncodable) (sym c.deref.ensures.value)
-    (all_encodable blocks sites c.push_returns.new.code.items c.requires.closed c.requires.few (all_appended blocks sites places c.push_blocks.new.code.items c.push_returns.new.code.items c.requires.places mid c.in_ok-push_returns.ensures))
+    (all_encodable blocks sites c.push_returns.new.code.items c.requires.closed c.requires.few
+    (all_appended blocks sites places c.push_blocks.new.code.items c.push_returns.new.code.items c.requires.places mid c.in_ok-push_returns.ensures))
 
 pub returns : goal.returns
 returns c =
@@ -45,4 +46,5 @@ returns c =
     let mid = blocks_behind (start_of places) places.end blocks c.new-code.result.items c.push_blocks.new.code.items c.new-code.ensures.items c.in_ok-push_blocks.ensures in
     IfOk-weaker c.encoded.result (λ words. words.items ≡ map word_of c.deref.result.now) (λ words. IsLaidOut blocks sites words.items)
     (λ words same. laid_out blocks sites words.items c.push_returns.new.code.items
-    (all_appended blocks sites places c.push_blocks.new.code.items c.push_returns.new.code.items c.requires.places mid c.in_ok-push_returns.ensures) (same ∙ ap (map word_of) c.deref.ensures.value)) c.encoded.ensures
+    (all_appended blocks sites places c.push_blocks.new.code.items c.push_returns.new.code.items c.requires.places mid c.in_ok-push_returns.ensures)
+    (same ∙ ap (map word_of) c.deref.ensures.value)) c.encoded.ensures

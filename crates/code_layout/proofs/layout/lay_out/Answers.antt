@@ -28,7 +28,8 @@ returns-clause-carried c =
     let blocks = c.args.blocks.now in
     let code = c.args.code.now in
     let laid = subst (IsLaidOut blocks code.sites) (sym c.of-2.ensures) (subst (λ sites. IsLaidOut blocks sites c.in_ok-words.words.items) c.as_slice-3.ensures c.in_ok-words.ensures) in
-    laid_out_carries c.code_address-code_address.result blocks code.sites c.of-2.result (exits_of code) c.requires.closed c.requires.sites c.requires.few_sites c.requires.few c.code_address-code_address.ensures.low (λ v. refl) laid
+    laid_out_carries c.code_address-code_address.result blocks code.sites c.of-2.result
+    (exits_of code) c.requires.closed c.requires.sites c.requires.few_sites c.requires.few c.code_address-code_address.ensures.low (λ v. refl) laid
 
 pub returns-clause-threads : goal.returns-clause-threads
 returns-clause-threads c =

@@ -38,7 +38,8 @@ push_search-requires-2 t c =
         c.requires.places,
         (
           rise_above sites below above halves c.requires.sites,
-          room_behind (start_of c.args.places.now) c.args.code.now.items c.push_fork.new.code.items c.push_search.new.code.items below above _ _ 8388608 some c.in_ok-push_fork.ensures c.in_ok-push_search.ensures (omega (arith, c.requires.few, all)),
+          room_behind (start_of c.args.places.now) c.args.code.now.items c.push_fork.new.code.items c.push_search.new.code.items
+              below above _ _ 8388608 some c.in_ok-push_fork.ensures c.in_ok-push_search.ensures (omega (arith, c.requires.few, all)),
         ),
       ),
     )
@@ -55,7 +56,8 @@ returns t c =
     let fits : get_or above 0 0 < 2 ^ 64 = omega (arith, split.by_index.2 0 0, c.type_inv.sites (length sites / 2 + 0)) in
     on_ok_weaker c.push_search-2.result
     (λ (second : AppendsSearch (start_of c.args.places.now) above c.push_search.new.code.items c.push_search-2.new.code.items).
-    forked_halves (start_of c.args.places.now) old c.push_fork.new.code.items c.push_search.new.code.items c.push_search-2.new.code.items sites below above halves c.requires.sites fits fork c.in_ok-push_search.ensures second)
+    forked_halves (start_of c.args.places.now) old c.push_fork.new.code.items c.push_search.new.code.items c.push_search-2.new.code.items
+    sites below above halves c.requires.sites fits fork c.in_ok-push_search.ensures second)
     c.push_search-2.ensures
 
 pub returns-then-sites-eq1 : goal.returns-then-sites-eq1
@@ -63,5 +65,6 @@ returns-then-sites-eq1 t c =
     let sites = c.args.sites.now in
     let site = get_or sites 0 0 in
     on_ok_weaker c.push_leaf.result
-    (λ words. leaf_appended (start_of c.args.places.now) c.args.code.now.items c.push_leaf.new.code.items sites site c.start_of.result c.if-sites-eq1.true refl (omega (arith, c.type_inv.sites 0)) c.start_of.ensures.value words)
+    (λ words. leaf_appended (start_of c.args.places.now) c.args.code.now.items c.push_leaf.new.code.items sites site c.start_of.result c.if-sites-eq1.true refl
+    (omega (arith, c.type_inv.sites 0)) c.start_of.ensures.value words)
     c.push_leaf.ensures

@@ -7,4 +7,5 @@ use Rattle.code_layout.proofs.tests.stop_blocks.Goals as goal
 pub returns-clause-sites : goal.returns-clause-sites
 returns-clause-sites c =
     stop_is_begun c.in_ok-divides.divides c.in_ok-invalid.invalid c.in_ok-returns.returns c.in_ok-jumps.jumps c.in_ok-from_array.field-0.items
-    (ap (λ (b : ABlock XReg). b.first) c.in_ok-divides.ensures) (ap (λ (b : ABlock XReg). b.first) c.in_ok-invalid.ensures) (ap (λ (b : ABlock XReg). b.first) c.in_ok-jumps.ensures) c.in_ok-from_array.ensures.items
+    (ap (λ (b : ABlock XReg). b.first) c.in_ok-divides.ensures) (ap (λ (b : ABlock XReg). b.first) c.in_ok-invalid.ensures)
+    (ap (λ (b : ABlock XReg). b.first) c.in_ok-jumps.ensures) c.in_ok-from_array.ensures.items

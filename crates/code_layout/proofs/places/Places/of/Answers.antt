@@ -16,7 +16,8 @@ loop-block-preserved c =
     let invariant = c.loop-block.invariant in
     record {
       firsts = first ∙ ap (λ l. l ++ block.first ∷ []) invariant.firsts ∙ sym (firsts-push (take i blocks) block) ∙ ap firsts (sym more);
-      starts = start ∙ ap (λ l. l ++ c.loop-block.end ∷ []) invariant.starts ∙ ap (λ n. starts_from 0 (take i blocks) ++ n ∷ []) (omega (arith, invariant.end)) ∙ sym (starts_from-push 0 (take i blocks) block)
+      starts = start ∙ ap (λ l. l ++ c.loop-block.end ∷ []) invariant.starts ∙ ap (λ n. starts_from 0 (take i blocks) ++ n ∷ []) (omega (arith, invariant.end)) ∙ sym
+          (starts_from-push 0 (take i blocks) block)
           ∙ ap (starts_from 0) (sym more);
       end = ap (λ n. c.loop-block.end + n) c.block_size-end.ensures ∙ ap (λ n. n + block_size block) invariant.end ∙ sym (blocks_size-push (take i blocks) block) ∙ ap blocks_size (sym more);
     }
