@@ -8,3 +8,6 @@ mod window;
 
 pub use instruction::instruction_at;
 pub use window::{Window, window_at};
+
+#[cfg(test)]
+mod tests;
