@@ -1,6 +1,5 @@
 -- What the plan sees of items that stand one behind the other.
 use Rattle.std.proofs.Common.{◌≡◌, ◌&&◌, not, Bool, true, false, List, [], ◌∷◌, ◌++◌, map, refl, sym, ap, ◌∙◌, append_assoc}
-use Rattle.std.proofs.lemmas.List.{append-nil}
 use Rattle.std.specs.Prelude.{if◌then◌else◌}
 use Rattle.std.specs.List.{AllByRecursion}
 use Rattle.ev_graph.specs.declared.events.Access.{Access}
@@ -14,12 +13,12 @@ use Rattle.behavior.specs.Seen.{barrier, trace, lowered}
 use Rattle.behavior.proofs.SeenLemmas.{lowered-append}
 use Rattle.x64_syntax.specs.declared.slots.Slot.{Slot}
 use Rattle.fence_plan.specs.Gaps.{fences_of}
-use Rattle.fence_plan.specs.Planned.{barrier_item, given, first_given, later_gaps, is_barrier, with_barrier, shared_view, IsFence}
+use Rattle.fence_plan.specs.Planned.{barrier_item, first_given, later_gaps, with_barrier, shared_view, IsFence}
 use Rattle.fence_plan.specs.Private.{slot_kind, is_private, privacy}
 use Rattle.fence_plan.specs.declared.gap.Gap.{Gap}
 use Rattle.ev_graph.specs.WellFormed.{is_write}
-use Rattle.fence_plan.specs.Dressed.{starts_with_locked_write, begins_gap, dressed}
-use Rattle.fence_merge.proofs.Views.{IsQuiet, IsFirst, IsSecond, IsTurn, one, pair}
+use Rattle.fence_plan.specs.Dressed.{starts_with_locked_write, dressed}
+use Rattle.fence_merge.proofs.Views.{IsQuiet, IsTurn, one, pair}
 
 -- one item in front, whatever the turns are
 pub view-fence : (turns : List Bool) (f : FenceItem) (is : List Item) → shared_view turns (items.Fence f ∷ is) ≡ with_barrier f.kind (shared_view turns is)

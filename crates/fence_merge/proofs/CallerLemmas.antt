@@ -13,3 +13,5 @@ pub use Rattle.fence_merge.proofs.Dressed.{IsBarrier, view-lowered}
 -- the tree that gives the fences of gaps has the paths of the tree, with these fences
 pub use Rattle.fence_merge.proofs.Views.{IsFirst, IsSecond, IsTurn, one, pair}
 pub use Rattle.fence_merge.proofs.Dressed.{IsCalm, MakesSlots, slots_start, stop_with, given_path}
+-- what gaps give is seen, and is fences
+pub use Rattle.fence_merge.proofs.Barriers.{view-given, given_fences}

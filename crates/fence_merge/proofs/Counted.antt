@@ -1,9 +1,9 @@
 -- What the fences of gaps cost.
-use Rattle.std.proofs.Common.{◌≡◌, ℕ, ◌+◌, ◌≤◌, Bool, true, false, List, [], ◌∷◌, ◌++◌, Option, Some, None, length, map, refl, sym, ap, ◌∙◌, subst, arith}
+use Rattle.std.proofs.Common.{◌≡◌, ℕ, ◌+◌, ◌≤◌, Bool, true, false, List, [], ◌∷◌, ◌++◌, Option, Some, None, length, refl, sym, ap, ◌∙◌, arith}
 use Rattle.x64_syntax.specs.declared.slots.Slot.{Slot}
 use Rattle.x64_syntax.specs.declared.slots.SlotKind.{SlotKind}
 use Rattle.x64_syntax.specs.declared.slots.SlotKind.TheVariants.{Read, Write, Locked}
-use Rattle.limm_ir.specs.Costs.{cost_of, step_cost, fence_cost, fenced_cost}
+use Rattle.limm_ir.specs.Costs.{cost_of, step_cost, fenced_cost}
 use Rattle.limm_ir.specs.declared.step.IrFence.{IrFence}
 use Rattle.limm_ir.specs.declared.step.IrFence.TheVariants.{Frm, Fww, Fsc}
 use Rattle.limm_ir.specs.declared.step.IrStep.{IrStep}

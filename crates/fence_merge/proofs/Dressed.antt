@@ -10,14 +10,13 @@ use Rattle.ev_graph.specs.declared.events.Item.{Item}
 use Rattle.ev_graph.specs.declared.events.Item.TheVariants as items
 use Rattle.behavior.specs.Tree.{Tree, Gives, Begins, Acts, Point, Cut, At, Path, cut, gives, begins, acts, Next, Goes, Stops}
 use Rattle.behavior.specs.Seen.{barrier, placed, lowered}
-use Rattle.behavior.proofs.Paths.{path_at}
 use Rattle.x64_syntax.specs.declared.slots.Slot.{Slot}
 use Rattle.fence_plan.specs.Planned.{first_given, later_gaps, is_barrier, with_barrier, shared_view, Planning, with_gaps}
 use Rattle.fence_plan.specs.Private.{is_private, has_shared, privacy}
 use Rattle.fence_plan.specs.declared.gap.Gap.{Gap}
 use Rattle.fence_plan.specs.Dressed.{starts_with_locked_write, begins_gap, dressed}
 use Rattle.fence_merge.proofs.Barriers.{with_gap, without_gap, view-fence, view-given, view-input, view-output, turn_starts, turn_dressed}
-use Rattle.fence_merge.proofs.Views.{IsFirst, IsTurn, one, pair}
+use Rattle.fence_merge.proofs.Views.{IsTurn, one, pair}
 
 -- a fence that is no barrier of Arm
 abbrev pub IsNoBarrier : Item → Type 0

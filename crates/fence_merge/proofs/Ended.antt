@@ -1,9 +1,8 @@
 -- A block follows the plan where its steps do.
 use Rattle.std.proofs.Common.{◌≡◌, ℕ, ◌+◌, Bool, List, [], ◌++◌, refl, sym, ap, ◌∙◌, subst}
 use Rattle.std.proofs.lemmas.List.{append-nil}
-use Rattle.ev_graph.specs.declared.events.End.{End}
 use Rattle.ev_graph.specs.declared.events.Item.{Item}
-use Rattle.behavior.specs.Tree.{Tree, Point, Cut, At, Path, cut, gives, Next, Goes, Stops, ◌then◌}
+use Rattle.behavior.specs.Tree.{Tree, Point, Cut, At, Path, cut, gives, Next, Goes, Stops}
 use Rattle.behavior.specs.Acts.{Permission}
 use Rattle.behavior.specs.Leaving.{Left}
 use Rattle.behavior.proofs.Paths.{path_at, path_cut, path_stop, path_then, Split, within, ended, beyond, split}
@@ -63,7 +62,8 @@ block_follows private xs ys follows end may s made stop n path = by (split (ir_s
     block : Tree (Next (Left IrState))
     block = ir_block no_cost may (unfenced xs) end s
 
-    on : {t : IrState} {xs more all : List Item} {stop : Point (Next (Left IrState))} {m : ℕ} → FollowsGaps (marked private) gs steps xs (At (Goes t)) → Path (ir_end end t) more stop m → all ≡ xs ++ more
+    on : {t : IrState} {xs more all : List Item} {stop : Point (Next (Left IrState))} {m : ℕ} → FollowsGaps (marked private) gs steps xs (At (Goes t))
+        → Path (ir_end end t) more stop m → all ≡ xs ++ more
         → FollowsGaps (marked private) gs block all stop
     on {t} {xs} {more} {all} {stop} {m} f later same =
         let none = end_makes end t later in

@@ -1,5 +1,5 @@
 -- Merged steps follow the plan.
-use Rattle.std.proofs.Common.{◌≡◌, ℕ, zero, suc, ◌+◌, ◌<◌, Bool, true, false, List, [], ◌∷◌, ◌++◌, map, refl, sym, ap, ◌∙◌, subst, append_assoc}
+use Rattle.std.proofs.Common.{◌≡◌, ℕ, ◌+◌, Bool, true, false, List, [], ◌∷◌, ◌++◌, map, refl, sym, ap, ◌∙◌, subst}
 use Rattle.std.proofs.lemmas.List.{append-nil, map-append}
 use Rattle.std.specs.List.{AllByRecursion}
 use Rattle.ev_graph.specs.declared.events.FenceKind.{FenceKind}
@@ -7,12 +7,12 @@ use Rattle.ev_graph.specs.declared.events.FenceKind.TheVariants as kinds
 use Rattle.ev_graph.specs.declared.events.End.{End}
 use Rattle.ev_graph.specs.declared.events.Item.{Item}
 use Rattle.ev_graph.specs.declared.events.Item.TheVariants as items
-use Rattle.behavior.specs.Tree.{Tree, Gives, Begins, Acts, Point, Cut, At, Path, cut, gives, begins, acts, Next, Goes, Stops, ◌then◌, ticks}
-use Rattle.behavior.specs.Acts.{Permission, goes, fences_at}
-use Rattle.behavior.specs.Seen.{placed, lowered}
+use Rattle.behavior.specs.Tree.{Tree, Point, Cut, At, Path, cut, gives, begins, acts, Next, Goes, Stops, ◌then◌, ticks}
+use Rattle.behavior.specs.Acts.{Permission, goes}
+use Rattle.behavior.specs.Seen.{placed}
 use Rattle.behavior.proofs.Lists.{all_append}
 use Rattle.behavior.proofs.Makes.{AllMakes}
-use Rattle.behavior.proofs.Paths.{path_at, path_cut, path_stop, path_then, Split, within, ended, beyond, split}
+use Rattle.behavior.proofs.Paths.{path_cut, path_stop, path_then, Split, within, ended, beyond, split}
 use Rattle.behavior.proofs.SeenLemmas.{placed-append}
 use Rattle.behavior.proofs.Ticks.{Ticked, cut-within, behind, ticked}
 use Rattle.x64_syntax.specs.declared.slots.Slot.{Slot}
@@ -22,15 +22,14 @@ use Rattle.limm_ir.specs.Steps.{IrState, fence_of, ir_step, ir_steps}
 use Rattle.limm_ir.specs.declared.step.IrFence.{IrFence}
 use Rattle.limm_ir.specs.declared.step.IrFence.TheVariants.{Frm, Fww, Fsc}
 use Rattle.limm_ir.specs.declared.step.IrStep.{IrStep}
-use Rattle.limm_ir.specs.declared.step.IrStep.TheVariants as steps
 use Rattle.fence_place.specs.Marked.{marked}
-use Rattle.fence_plan.specs.Gaps.{gaps, fence_if, fences_of}
+use Rattle.fence_plan.specs.Gaps.{gaps, fence_if}
 use Rattle.fence_plan.specs.Planned.{barrier_item, given, first_given, later_gaps, IsFence}
 use Rattle.fence_plan.specs.declared.gap.Gap.{Gap}
 use Rattle.fence_merge.specs.Roles.{stations, unfenced}
-use Rattle.fence_merge.specs.Merged.{gap_steps, first_steps, woven, merged}
-use Rattle.fence_plan.specs.Dressed.{starts_with_locked_write, dressed}
-use Rattle.fence_merge.specs.Follows.{IsAtState, FollowsGaps, FollowsPlanOf}
+use Rattle.fence_merge.specs.Merged.{first_steps, woven, merged}
+use Rattle.fence_plan.specs.Dressed.{starts_with_locked_write}
+use Rattle.fence_merge.specs.Follows.{IsAtState, FollowsPlanOf}
 use Rattle.fence_merge.proofs.Barriers.{barriers_fences, given_fences, quiet_starts, turn_starts, Owed, quiet_owed, turn_owed, pays_owed}
 use Rattle.fence_merge.proofs.Counted.{fence_list, gap_fences, as_steps, gap_steps-are}
 use Rattle.fence_merge.proofs.Planned.{woven-slot, woven-other, kept-slot, kept-other}

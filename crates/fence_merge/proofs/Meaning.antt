@@ -1,7 +1,7 @@
 -- Merged steps keep accesses with their places, inputs and outputs.
 use Rattle.std.proofs.Common.{◌≡◌, ℕ, ◌+◌, ◌≤◌, Bool, true, false, List, [], ◌∷◌, ◌++◌, Option, Some, None, length, refl, sym, ap, ◌∙◌, subst, arith}
-use Rattle.behavior.specs.Tree.{Tree, Next, ◌then◌, ticks}
-use Rattle.behavior.specs.Acts.{Permission, goes, fences_at}
+use Rattle.behavior.specs.Tree.{Tree, Next, ◌then◌}
+use Rattle.behavior.specs.Acts.{Permission, goes}
 use Rattle.behavior.specs.Seen.{placed}
 use Rattle.std.proofs.lemmas.List.{append-nil}
 use Rattle.behavior.specs.Kept.{SameNext, both-go, Keeps}
@@ -23,8 +23,8 @@ use Rattle.fence_plan.specs.Gaps.{gap, gaps_from}
 use Rattle.fence_plan.specs.declared.gap.Gap.{Gap}
 use Rattle.fence_merge.specs.Roles.{stations}
 use Rattle.fence_merge.specs.Merged.{gap_steps, woven, merged}
-use Rattle.fence_merge.proofs.Counted.{gap_fences, as_steps, gap_steps-are, left_over, gap_paid, left_most}
-use Rattle.fence_merge.proofs.Views.{IsSlot, IsOther, View, a-slot, a-fence, a-other, view, before_cost, behind_cost}
+use Rattle.fence_merge.proofs.Counted.{gap_fences, as_steps, gap_steps-are, left_over, gap_paid}
+use Rattle.fence_merge.proofs.Views.{View, a-slot, a-fence, a-other, view, behind_cost}
 use Rattle.fence_merge.proofs.Planned.{woven-slot, woven-other, stations-slot, stations-other}
 
 -- what is done side by side, with a credit

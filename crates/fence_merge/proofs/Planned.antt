@@ -1,5 +1,5 @@
 -- Merged steps are the steps without their fences and with the planned ones, and placed fences change no plan.
-use Rattle.std.proofs.Common.{◌≡◌, ℕ, ◌||◌, Bool, true, false, List, [], ◌∷◌, ◌++◌, map, Option, Some, None, refl, sym, ap, ◌∙◌, append_assoc}
+use Rattle.std.proofs.Common.{◌≡◌, Bool, true, false, List, [], ◌∷◌, ◌++◌, map, Option, Some, None, refl, sym, ap, ◌∙◌, append_assoc}
 use Rattle.std.proofs.lemmas.List.{append-nil}
 use Rattle.std.proofs.lemmas.List.Concat.{flat_map-append}
 use Rattle.std.specs.List.{flat_map}
@@ -17,7 +17,7 @@ use Rattle.fence_plan.specs.Gaps.{Station, Shared, Strong, gap, gaps, gaps_from,
 use Rattle.fence_plan.specs.Planned.{later_gaps}
 use Rattle.fence_plan.specs.declared.gap.Gap.{Gap}
 use Rattle.fence_merge.specs.declared.role.Role.TheVariants.{Fence}
-use Rattle.fence_merge.specs.Roles.{role, role_stations, stations, without_fence, unfenced, behind_role, between}
+use Rattle.fence_merge.specs.Roles.{role_stations, stations, without_fence, unfenced, behind_role, between}
 use Rattle.fence_merge.specs.Merged.{step_if, gap_steps, first_steps, woven_by, woven, merged}
 use Rattle.fence_merge.proofs.Views.{IsSlot, IsOther, View, a-slot, a-fence, a-other, view, around}
 

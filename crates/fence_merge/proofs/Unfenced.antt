@@ -1,16 +1,15 @@
 -- Whether steps are well made, and what is live in them, is the same with fences and without.
 use Rattle.std.proofs.Common.{◌≡◌, ℕ, ◌≤◌, List, [], ◌∷◌, ◌++◌, length, refl, sym, ap, ◌∙◌, subst, inl, inr, arith}
 use mathlib.Core.Path.{fun_ext}
-use Rattle.std.specs.Prelude.{◌⊎◌, Some, None, Contains, eqb}
+use Rattle.std.specs.Prelude.{◌⊎◌, Some, Contains, eqb}
 use Rattle.std.proofs.lemmas.List.{append-nil}
 use Rattle.std.proofs.lemmas.List.Concat.{flat_map-append}
 use Rattle.std.specs.List.{AllByRecursion, IsDistinct}
-use Rattle.x64_syntax.specs.declared.slots.Slot.{Slot}
 use Rattle.limm_ir.specs.declared.block.IrEnd.{IrEnd}
 use Rattle.limm_ir.specs.declared.step.IrStep.{IrStep}
 use Rattle.limm_ir.specs.declared.step.IrStep.TheVariants as steps
 use Rattle.limm_ir.specs.declared.step.IrFence.{IrFence}
-use Rattle.limm_ir.specs.Conditions.{Known, Set, Unset, know, learn, IsWell, IsWellMade, step_sets, IsSetIn, SetsOnce, IsRead, IsLiveAt, LiveAtMost, IsSelectable}
+use Rattle.limm_ir.specs.Conditions.{Known, Unset, learn, IsWell, IsWellMade, step_sets, IsSetIn, SetsOnce, IsRead, IsLiveAt, LiveAtMost, IsSelectable}
 use Rattle.fence_merge.specs.Roles.{unfenced, without_fence}
 
 -- a step is a fence, or stays

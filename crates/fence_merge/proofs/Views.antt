@@ -24,7 +24,7 @@ use Rattle.fence_place.specs.Fenced.{fenced}
 use Rattle.fence_place.specs.Marked.{marked}
 use Rattle.fence_plan.specs.Private.{is_private}
 use Rattle.fence_merge.specs.declared.role.Role.TheVariants.{Boundary, Other}
-use Rattle.fence_merge.specs.Roles.{role, shared_unless, without_fence}
+use Rattle.fence_merge.specs.Roles.{role, boundary_unless, without_fence}
 use Rattle.ev_graph.specs.WellFormed.{is_write}
 
 -- an item that shows nothing to the plan
@@ -127,13 +127,13 @@ module _ (private : List Slot) where
 
   load_view : (t a : Temp) (size place : ℕ) (b : Bool) → marked private (record { address = place; kind = Read }) ≡ b → View (steps.Load t a size place)
   load_view t a size place true same = a-other (record {
-    role_is = ap (λ b. shared_unless b Read) same;
+    role_is = ap (λ b. boundary_unless b Read) same;
     kept = refl;
     placed = ap (λ b. if b then steps.Load t a size place ∷ [] else steps.Load t a size place ∷ steps.Fence Frm ∷ []) same;
     quiet = λ may s. makes_reads (IsQuiet (marked private)) may place (of s a) size _ (λ allowed v. same) (λ v. tt);
   })
   load_view t a size place false same = a-slot {kind = Read} (record {
-    role_is = ap (λ b. shared_unless b Read) same;
+    role_is = ap (λ b. boundary_unless b Read) same;
     kept = refl;
     placed = ap (λ b. if b then steps.Load t a size place ∷ [] else steps.Load t a size place ∷ steps.Fence Frm ∷ []) same;
     costs = omega arith;
@@ -142,13 +142,13 @@ module _ (private : List Slot) where
 
   store_view : (a v : Temp) (size place : ℕ) (b : Bool) → marked private (record { address = place; kind = Write }) ≡ b → View (steps.Store a v size place)
   store_view a v size place true same = a-other (record {
-    role_is = ap (λ b. shared_unless b Write) same;
+    role_is = ap (λ b. boundary_unless b Write) same;
     kept = refl;
     placed = ap (λ b. if b then steps.Store a v size place ∷ [] else steps.Fence Fww ∷ steps.Store a v size place ∷ []) same;
     quiet = λ may s. makes_writes (IsQuiet (marked private)) may place (of s a) size (of s v) (goes s) (λ allowed. same) tt;
   })
   store_view a v size place false same = a-slot {kind = Write} (record {
-    role_is = ap (λ b. shared_unless b Write) same;
+    role_is = ap (λ b. boundary_unless b Write) same;
     kept = refl;
     placed = ap (λ b. if b then steps.Store a v size place ∷ [] else steps.Fence Fww ∷ steps.Store a v size place ∷ []) same;
     costs = omega arith;

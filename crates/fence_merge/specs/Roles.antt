@@ -1,12 +1,11 @@
 -- What the steps of a block are to the plan of fences, and which fences stand between them.
-use Rattle.std.specs.Prelude.{◌≡◌, Bool, true, false, List, [], ◌∷◌, ◌++◌, map}
+use Rattle.std.specs.Prelude.{◌≡◌, Bool, true, false, List, [], ◌∷◌, map}
 use Rattle.std.specs.List.{flat_map}
 use Rattle.ev_graph.specs.declared.events.FenceKind.{FenceKind}
 use Rattle.x64_syntax.specs.declared.slots.Slot.{Slot}
 use Rattle.x64_syntax.specs.declared.slots.SlotKind.{SlotKind}
 use Rattle.x64_syntax.specs.declared.slots.SlotKind.TheVariants.{Read, Write, Locked}
 use Rattle.limm_ir.specs.Steps.{fence_of}
-use Rattle.limm_ir.specs.declared.step.IrFence.{IrFence}
 use Rattle.limm_ir.specs.declared.step.IrFence.TheVariants.{Frm, Fww, Fsc}
 use Rattle.limm_ir.specs.declared.step.IrStep.{IrStep}
 use Rattle.limm_ir.specs.declared.step.IrStep.TheVariants as steps
@@ -15,15 +14,15 @@ use Rattle.fence_plan.specs.Gaps.{Station, Shared, Strong, gaps, fences_of}
 use Rattle.fence_merge.specs.declared.role.Role.{Role}
 use Rattle.fence_merge.specs.declared.role.Role.TheVariants.{Boundary, Fence, Other}
 
--- an access is shared unless it is private
-abbrev pub shared_unless : (private : Bool) → SlotKind → Role
-shared_unless true kind = Other
-shared_unless false kind = Boundary kind
+-- an unlocked slot, which is a boundary of gaps unless it is private
+abbrev pub boundary_unless : (private : Bool) → SlotKind → Role
+boundary_unless true kind = Other
+boundary_unless false kind = Boundary kind
 
 -- What a step is to the plan: a slot that is not private, a fence, or neither. A locked slot is never private.
 abbrev pub role : (private : List Slot) → IrStep → Role
-role private (steps.Load t a size place) = shared_unless (marked private (record { address = place; kind = Read })) Read
-role private (steps.Store a v size place) = shared_unless (marked private (record { address = place; kind = Write })) Write
+role private (steps.Load t a size place) = boundary_unless (marked private (record { address = place; kind = Read })) Read
+role private (steps.Store a v size place) = boundary_unless (marked private (record { address = place; kind = Write })) Write
 role private (steps.Rmw op t a v size place) = Boundary Locked
 role private (steps.Cas t a e v size place) = Boundary Locked
 role private (steps.Fence f) = Fence f

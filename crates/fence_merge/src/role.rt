@@ -1,5 +1,5 @@
 ghost use Rattle.std.specs.Prelude.{◌≡◌};
-ghost use Rattle.fence_merge.specs.Roles.{role, shared_unless};
+ghost use Rattle.fence_merge.specs.Roles.{role, boundary_unless};
 ghost use Rattle.fence_place.specs.Marked.{IsSorted};
 
 use fence_place::is_marked;
@@ -16,8 +16,8 @@ pub enum Role {
     Other,
 }
 
-fn shared_unless(private: bool, kind: SlotKind) -> Role
-    ensures { result ≡ shared_unless private kind }
+fn boundary_unless(private: bool, kind: SlotKind) -> Role
+    ensures { result ≡ boundary_unless private kind }
 {
     if private {
         Role::Other
@@ -32,10 +32,10 @@ pub fn role_of(step: &IrStep, private: &Marks) -> Role
 {
     match *step {
         IrStep::Load(_, _, _, place) => {
-            shared_unless(is_marked(private, place, SlotKind::Read), SlotKind::Read)
+            boundary_unless(is_marked(private, place, SlotKind::Read), SlotKind::Read)
         }
         IrStep::Store(_, _, _, place) => {
-            shared_unless(is_marked(private, place, SlotKind::Write), SlotKind::Write)
+            boundary_unless(is_marked(private, place, SlotKind::Write), SlotKind::Write)
         }
         IrStep::Rmw(_, _, _, _, _, _) | IrStep::Cas(_, _, _, _, _, _) => {
             Role::Boundary(SlotKind::Locked)

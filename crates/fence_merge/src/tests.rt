@@ -1,3 +1,5 @@
+ghost use Rattle.fence_place.specs.Marked.{IsSorted};
+
 use crate::merge;
 use ev_graph::List;
 use limm_ir::{IrBlock, IrEnd, IrFence, IrStep, RmwOp, Temp};
@@ -23,7 +25,9 @@ fn add(place: u64) -> IrStep {
     IrStep::Rmw(RmwOp::Add, Temp(2), Temp(0), Temp(1), 8, place)
 }
 
-fn merged(alloc: Global, steps: &[IrStep], private: &[Slot]) -> Result<IrBlock, Fail> {
+fn merged(alloc: Global, steps: &[IrStep], private: &[Slot]) -> Result<IrBlock, Fail>
+    requires { IsSorted private.now }
+{
     let block = IrBlock {
         first: 0x401000,
         steps: List::of(Vec::from_slice(alloc, steps)?),

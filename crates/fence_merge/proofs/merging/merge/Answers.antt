@@ -1,4 +1,4 @@
-use Rattle.std.proofs.Common.{◌≡◌, ◌≤◌, None, false, ◌∙◌, ap, sym, subst, arith}
+use Rattle.std.proofs.Common.{◌≤◌, None, false, ◌∙◌, ap, sym, subst, arith}
 use Rattle.limm_ir.specs.Costs.{cost_of, step_cost, fenced_cost}
 use Rattle.fence_plan.specs.Gaps.{gaps}
 use Rattle.fence_merge.specs.Merged.{merged}
