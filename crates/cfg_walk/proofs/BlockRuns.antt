@@ -56,11 +56,11 @@ block_level may table (p ∷ ps) s =
 -- ---- where a stretch leads
 
 -- the one successor of an instruction with which no block ends
-behind : (p : Placed) (a : ℕ) → ends_block p.instr ≡ false → StandsIn (successors p) a → a ≡ end_of p
+pub behind : (p : Placed) (a : ℕ) → ends_block p.instr ≡ false → StandsIn (successors p) a → a ≡ end_of p
 behind p a open_it at = only (end_of p) a at.0 (subst (λ xs. slice_get xs at.0 ≡ Some a) (falls p.instr p.flow (end_of p) open_it) at.1)
 
 -- from the last instruction of a stretch control comes to where a block may begin
-last_leads : (program : Program) (p : Placed) → IsPlaced program p → (ends_block p.instr ≡ true) ⊎ IsLeader program (end_of p) → (a : ℕ) → StandsIn (successors p) a → IsLeader program a
+pub last_leads : (program : Program) (p : Placed) → IsPlaced program p → (ends_block p.instr ≡ true) ⊎ IsLeader program (end_of p) → (a : ℕ) → StandsIn (successors p) a → IsLeader program a
 last_leads program p placed end a at = elim (leads p.instr p.flow (end_of p) a at) [
   | inl led_to ↦ at-led p placed led_to
   | inr fallen ↦ elim end [
@@ -105,17 +105,17 @@ module _ (program : Program) (code : Code) (segments : AllByRecursion IsSegment 
   -- ---- the machine's step
 
   -- what follows an instruction within its block
-  abbrev on : List Placed → Exit → Tree (Next Thread)
+  abbrev pub on : List Placed → Exit → Tree (Next Thread)
   on ps e = (goes_on table (x64_block may table ps) e then lands (exits_of code)) then (λ a. goes (at_arrival a))
 
-  whole_is : (p : Placed) (ps : List Placed) (s : Thread) → whole_step may code table (p ∷ ps) s ≡ (Begins (row_of may p.instr p.length p.flow s) then on ps)
+  pub whole_is : (p : Placed) (ps : List Placed) (s : Thread) → whole_step may code table (p ∷ ps) s ≡ (Begins (row_of may p.instr p.length p.flow s) then on ps)
   whole_is p ps s =
       let row = Begins (row_of may p.instr p.length p.flow s) in
       let one = then-assoc row (goes_on table (x64_block may table ps)) (lands (exits_of code)) in
       ap (λ t. t then (λ a. goes (at_arrival a))) one ∙ then-assoc row (λ e. goes_on table (x64_block may table ps) e then lands (exits_of code)) (λ a. goes (at_arrival a))
 
   -- a return is resolved alike by a step and behind a block
-  return_is : (ps : List Placed) (t : Thread) (v : ℕ) → resolve (has_address code.sites) no_entries (Return t v) ≡ on ps (Return t v)
+  pub return_is : (ps : List Placed) (t : Thread) (v : ℕ) → resolve (has_address code.sites) no_entries (Return t v) ≡ on ps (Return t v)
   return_is ps t v = by_tests (v == 0) (has_address code.sites v)
     where
       by_tests : (b c : Bool) → (if b then Gives (Stops Halted) else (if c then goes (record t { at = v }) else traps BadReturn))

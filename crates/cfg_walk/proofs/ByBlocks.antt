@@ -27,7 +27,7 @@ some_same : {A : Type 0} {x y : A} → Some x ≡ Some y → x ≡ y
 some_same e = cc
 
 -- a block is found where one begins
-block_found : (blocks : List Block) (address : ℕ) (b : Block) (i : ℕ) → slice_get blocks i ≡ Some b → b.first ≡ address
+pub block_found : (blocks : List Block) (address : ℕ) (b : Block) (i : ℕ) → slice_get blocks i ≡ Some b → b.first ≡ address
     → (c : Block) × (block_at blocks address ≡ Some c) × StandsIn blocks c × (c.first ≡ address)
 block_found [] address b i at first = absurd (cc)
 block_found (c ∷ cs) address b i at first = by_test (address == c.first) refl i at (λ j later. block_found cs address b j later first)
