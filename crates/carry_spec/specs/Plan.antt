@@ -1,12 +1,11 @@
 -- The fence plan of a file's code: the gaps of each block, and what is counted of them.
-use Rattle.std.specs.Prelude.{◌≡◌, ℕ, Bool, List, [], ◌∷◌, ◌++◌, length, map, flat_map, sum_by, count_by, Option, Some, None, if◌then◌else◌}
+use Rattle.std.specs.Prelude.{◌≡◌, ℕ, Bool, List, [], ◌∷◌, ◌++◌, length, flat_map, sum_by, count_by, Option, Some, None, if◌then◌else◌}
 use Rattle.ev_graph.specs.Places.{StandsIn}
 use Rattle.x64_syntax.specs.declared.instr.Instr.{Instr}
 use Rattle.x64_syntax.specs.declared.instr.Instr.TheVariants as instr
-use Rattle.x64_syntax.specs.declared.instr_slots.InstrSlot.{InstrSlot}
 use Rattle.x64_syntax.specs.declared.placed.Placed.{Placed}
 use Rattle.x64_syntax.specs.declared.slots.Slot.{Slot}
-use Rattle.x64_syntax.specs.Slots.{slots}
+use Rattle.x64_syntax.specs.Slots.{placed_slots}
 use Rattle.cfg_walk.specs.declared.code.Block.{Block}
 use Rattle.cfg_walk.specs.declared.code.Code.{Code}
 use Rattle.cfg_walk.specs.Blocks.{AreOf}
@@ -14,10 +13,6 @@ use Rattle.fence_plan.specs.declared.gap.Gap.{Gap}
 use Rattle.fence_plan.specs.Gaps.{Station, Shared, Strong, gaps}
 use Rattle.fence_plan.specs.Private.{hides}
 use Rattle.carry_spec.specs.declared.summary.Summary.{Summary}
-
--- the slots of an instruction, by its address
-abbrev pub slots_at : Placed → List Slot
-slots_at p = map (λ (s : InstrSlot). record { address = p.address; kind = s.kind }) (slots p.instr p.flow)
 
 -- a slot counts for the plan unless it is private
 abbrev pub station : (private : Slot → Bool) → Slot → List Station
@@ -30,7 +25,7 @@ strong i = []
 
 -- what counts of an instruction
 abbrev pub stations_of : (private : Slot → Bool) → Placed → List Station
-stations_of private p = strong p.instr ++ flat_map (station private) (slots_at p)
+stations_of private p = strong p.instr ++ flat_map (station private) (placed_slots p)
 
 -- the gaps of a block with these instructions
 abbrev pub block_gaps : (private : Slot → Bool) → List Placed → List Gap
@@ -54,8 +49,8 @@ summary_of private threads pss = record {
   threads = threads;
   instructions = sum_by (λ ps. length ps) pss;
   blocks = length pss;
-  accesses = sum_by (λ ps. length (flat_map slots_at ps)) pss;
-  private = sum_by (λ ps. count_by (hides private) (flat_map slots_at ps)) pss;
+  accesses = sum_by (λ ps. length (flat_map placed_slots ps)) pss;
+  private = sum_by (λ ps. count_by (hides private) (flat_map placed_slots ps)) pss;
   frm = sum_by (λ ps. count_by (λ (g : Gap). g.frm) (block_gaps private ps)) pss;
   fww = sum_by (λ ps. count_by (λ (g : Gap). g.fww) (block_gaps private ps)) pss;
   fsc = sum_by (λ ps. count_by (λ (g : Gap). g.fsc) (block_gaps private ps)) pss;
