@@ -1,6 +1,6 @@
 -- The words of blocks with their ends, one behind the other, and of the returns, which all blocks share. Words are counted
 -- from the first of the code on.
-use Rattle.std.specs.Prelude.{◌≡◌, ℕ, ◌+◌, ◌*◌, ◌/◌, ◌%◌, ◌^◌, true, pos, ◌-ℤ◌, List, [], ◌∷◌, ◌++◌, length, map}
+use Rattle.std.specs.Prelude.{◌≡◌, ℕ, ◌+◌, ◌*◌, ◌/◌, ◌%◌, ◌^◌, true, ℤ, pos, ◌-ℤ◌, List, [], ◌∷◌, ◌++◌, length, map}
 use Rattle.ev_graph.specs.declared.events.TrapKind.TheVariants.{BadReturn, BadJump}
 use Rattle.a64_code.specs.declared.instr.XReg.{XReg}
 use Rattle.a64_code.specs.declared.instr.A64.{A64}
@@ -16,6 +16,21 @@ use Rattle.code_layout.specs.Search.{Search, Nowhere, Leaf, Fork, search_size, I
 -- the register Xn, or the zero register for 31
 abbrev pub x : ℕ → XReg
 x n = record { number = n }
+
+-- The registers for a return address and for a site that it is compared with, which belong to the layout between blocks;
+-- and the zero register.
+abbrev pub popped : XReg
+popped = x 16
+
+abbrev pub compared : XReg
+compared = x 17
+
+abbrev pub zero_register : XReg
+zero_register = x 31
+
+-- the distance over the next word
+abbrev pub over_next : ℤ
+over_next = pos 2
 
 -- the conditions NE and LO, and the call that ends a thread
 abbrev pub not_equal : ℕ
@@ -35,21 +50,21 @@ jump at to = words.B (pos to -ℤ pos at)
 abbrev pub quarter_of : (address quarter : ℕ) → ℕ
 quarter_of address quarter = address / 2 ^ (16 * quarter) % 2 ^ 16
 
--- X16 is compared with an address, which comes to X17
+-- the return address is compared with another
 abbrev pub compare_words : (address : ℕ) → List (A64 XReg)
 compare_words address =
-    words.Movz true (x 17) (quarter_of address 0) 0 ∷ words.Movk true (x 17) (quarter_of address 1) 1 ∷ words.Movk true (x 17) (quarter_of address 2) 2
-    ∷ words.Movk true (x 17) (quarter_of address 3) 3 ∷ words.Subs true (x 31) (x 16) (x 17) 0 0 ∷ []
+    words.Movz true compared (quarter_of address 0) 0 ∷ words.Movk true compared (quarter_of address 1) 1 ∷ words.Movk true compared (quarter_of address 2) 2
+    ∷ words.Movk true compared (quarter_of address 3) 3 ∷ words.Subs true zero_register popped compared 0 0 ∷ []
 
--- to a place where X16 is a site, and else to the trap
+-- to a place where the return address is a site, and else to the trap
 abbrev pub leaf_words : (at site place : ℕ) → List (A64 XReg)
-leaf_words at site place = compare_words site ++ words.BCond not_equal (pos 2) ∷ jump (at + 6) place ∷ words.Brk (break_of BadReturn) ∷ []
+leaf_words at site place = compare_words site ++ words.BCond not_equal over_next ∷ jump (at + 6) place ∷ words.Brk (break_of BadReturn) ∷ []
 
--- to a place where X16 is not lower than a site, and else on
+-- to a place where the return address is not lower than a site, and else on
 abbrev pub fork_words : (at site place : ℕ) → List (A64 XReg)
-fork_words at site place = compare_words site ++ words.BCond lower (pos 2) ∷ jump (at + 6) place ∷ []
+fork_words at site place = compare_words site ++ words.BCond lower over_next ∷ jump (at + 6) place ∷ []
 
--- the words that go from X16 to the place of the site that it holds, if it holds one
+-- the words that go to the place of the site that the return address is, if it is one
 abbrev pub search_words : (start : ℕ → ℕ) → (at : ℕ) → Search → List (A64 XReg)
 search_words start at Nowhere = words.Brk (break_of BadReturn) ∷ []
 search_words start at (Leaf site) = leaf_words at site (start site)
@@ -57,15 +72,15 @@ search_words start at (Fork site below above) =
     fork_words at site (at + 7 + search_size below)
     ++ (search_words start (at + 7) below ++ search_words start (at + 7 + search_size below) above)
 
--- The words that take a return address in X16: 0 halts, and any other is looked up.
+-- The words that take a return address: 0 halts, and any other is looked up.
 abbrev pub return_words : (start : ℕ → ℕ) → (at : ℕ) → Search → List (A64 XReg)
-return_words start at t = words.Cbnz true (x 16) (pos 2) ∷ words.Svc halts ∷ search_words start (at + 2) t
+return_words start at t = words.Cbnz true popped over_next ∷ words.Svc halts ∷ search_words start (at + 2) t
 
 -- the words of a block's end; blocks stand where `start` says, and the returns at `returns`
 abbrev pub end_words : (start : ℕ → ℕ) → (returns at : ℕ) → AEnd XReg → List (A64 XReg)
 end_words start returns at (ends.Goto a) = jump at (start a) ∷ []
-end_words start returns at (ends.Branch r a b) = words.Cbz true r (pos 2) ∷ jump (at + 1) (start a) ∷ jump (at + 2) (start b) ∷ []
-end_words start returns at (ends.Return r) = words.Orr true (x 16) (x 31) r 0 0 ∷ jump (at + 1) returns ∷ []
+end_words start returns at (ends.Branch r a b) = words.Cbz true r over_next ∷ jump (at + 1) (start a) ∷ jump (at + 2) (start b) ∷ []
+end_words start returns at (ends.Return r) = words.Orr true popped zero_register r 0 0 ∷ jump (at + 1) returns ∷ []
 end_words start returns at (ends.Indexed r table) = words.Brk (break_of BadJump) ∷ []
 end_words start returns at (ends.Stop kind) = words.Brk (break_of kind) ∷ []
 

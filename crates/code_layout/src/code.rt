@@ -10,7 +10,7 @@ ghost use Rattle.code_layout.specs.Code.{end_words, blocks_words, AppendsReturns
 
 use crate::places::Places;
 use crate::search::push_search;
-use crate::words::{POPPED, ZERO, push_jump};
+use crate::words::{OVER_NEXT, POPPED, ZERO, push_jump};
 use a64_block::{ABlock, AEnd, break_of};
 use a64_code::{A64, XReg, encode};
 use ev_graph::{NoMemory, TrapKind};
@@ -28,7 +28,7 @@ fn push_end(code: &mut Vec<A64<XReg>>, end: AEnd<XReg>, places: &Places) -> Resu
     match end {
         AEnd::Goto(address) => push_jump(code, places.start_of(address)),
         AEnd::Branch(register, taken, other) => {
-            code.push(A64::Cbz(true, register, 2))?;
+            code.push(A64::Cbz(true, register, OVER_NEXT))?;
             push_jump(code, places.start_of(taken))?;
             push_jump(code, places.start_of(other))
         }
@@ -77,7 +77,7 @@ pub fn push_returns(
     requires few { length code.old.items + 15 * length sites.now + 2 ≤ 2 ^ 23 }
     ensures { OnOk result (AppendsReturns (start_of places.now) sites.now code.old.items code.new.items) }
 {
-    code.push(A64::Cbnz(true, POPPED, 2))?;
+    code.push(A64::Cbnz(true, POPPED, OVER_NEXT))?;
     code.push(A64::Svc(HALTS))?;
     push_search(code, sites, places)
 }

@@ -1,5 +1,5 @@
-ghost use Rattle.std.specs.Prelude.{◌≡◌, ◌<◌, ◌≤◌, ◌^◌, ◌+◌, ◌*◌, ◌-ℤ◌, pos, [], ◌∷◌, ◌++◌, length, OnOk};
-ghost use Rattle.code_layout.specs.Code.{x, quarter_of, jump, compare_words, leaf_words, fork_words};
+ghost use Rattle.std.specs.Prelude.{◌≡◌, ◌<◌, ◌≤◌, ◌^◌, ◌+◌, ◌-ℤ◌, pos, [], ◌∷◌, ◌++◌, length, OnOk};
+ghost use Rattle.code_layout.specs.Code.{quarter_of, jump, compare_words, leaf_words, fork_words};
 
 use a64_block::break_of;
 use a64_code::{A64, XReg};
@@ -10,6 +10,9 @@ const NOT_EQUAL: u8 = 1;
 
 /// The condition LO: lower, without sign.
 const LOWER: u8 = 3;
+
+/// The distance over the next word.
+pub const OVER_NEXT: i32 = 2;
 
 /// The register that holds a return address where the words of the returns begin.
 pub const POPPED: XReg = XReg { number: 16 };
@@ -67,7 +70,7 @@ pub fn push_leaf(code: &mut Vec<A64<XReg>>, site: u64, place: u64) -> Result<(),
     ensures { OnOk result (code.new.items ≡ code.old.items ++ leaf_words (length code.old.items) site place) }
 {
     push_compare(code, site)?;
-    code.push(A64::BCond(NOT_EQUAL, 2))?;
+    code.push(A64::BCond(NOT_EQUAL, OVER_NEXT))?;
     push_jump(code, place)?;
     code.push(A64::Brk(break_of(TrapKind::BadReturn)))?;
     Ok(())
@@ -80,6 +83,6 @@ pub fn push_fork(code: &mut Vec<A64<XReg>>, site: u64, place: u64) -> Result<(),
     ensures { OnOk result (code.new.items ≡ code.old.items ++ fork_words (length code.old.items) site place) }
 {
     push_compare(code, site)?;
-    code.push(A64::BCond(LOWER, 2))?;
+    code.push(A64::BCond(LOWER, OVER_NEXT))?;
     push_jump(code, place)
 }
