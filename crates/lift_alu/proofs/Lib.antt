@@ -16,6 +16,7 @@ mod LiftedSteps
 mod Building
 mod Meaning
 mod Unlocked
+mod Marked
 mod Tame
 mod Modest
 mod Bounds

@@ -15,7 +15,7 @@ use Rattle.x64_syntax.specs.declared.placed.Flow.TheVariants as flow
 use Rattle.limm_ir.specs.Conditions.{IsUnlocked}
 use Rattle.lift_alu.specs.Formulas.{Formula, Kept, Number, Register, Flag, Operation, Choice, computes, size, Lifting, done, keeps, sets_register, sets_flag, loads, stores}
 use Rattle.lift_alu.specs.Flags.{sets_result, sets_flags}
-use Rattle.lift_alu.specs.Lifted.{Place, InRegister, InMemory, Nowhere, in_memory, puts, fetches, finds, reads_there, writes_there, puts_there, moves, puts_operand, changes, flags_of, compares, combines, lifts_alu, takes_address, exchanges, adds_exchanged, pushes, pops, leaves_frame, chooses, lifts, takes_in, puts_out, writes_return, calls, jumps, lifts_with}
+use Rattle.lift_alu.specs.Lifted.{Place, InRegister, InMemory, Nowhere, in_memory, puts, fetches, finds, reads_there, writes_there, puts_there, moves, puts_operand, changes, flags_of, compares, combines, lifts_alu, takes_address, exchanges, adds_exchanged, pushes, pops, leaves_frame, chooses, lifts, writes_return, calls, jumps, lifts_with}
 
 computes_unlocked : (next : ℕ) (e : Formula) → AllByRecursion IsUnlocked (computes next e)
 computes_unlocked next (Kept t) = tt

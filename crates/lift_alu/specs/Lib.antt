@@ -3,6 +3,7 @@ pub mod Operands
 pub mod Flags
 pub mod Lifted
 pub mod Built
+pub mod Marks
 pub mod Meant
 pub mod SoFar
 pub mod There

@@ -1,5 +1,5 @@
 -- What it means that steps do what an instruction does.
-use Rattle.std.specs.Prelude.{◌≡◌, ℕ, ◌+◌, ◌%◌, ◌^◌, ◌<◌, ◌≤◌, List, [], ◌∷◌}
+use Rattle.std.specs.Prelude.{◌≡◌, ℕ, ◌+◌, ◌%◌, ◌^◌, ◌<◌, ◌≤◌, List, [], ◌∷◌, flat_map}
 use Rattle.std.specs.List.{AllByRecursion}
 use Rattle.ev_graph.specs.declared.events.TrapKind.TheVariants.{Invalid}
 use Rattle.word_arith.specs.Bits.{bit}
@@ -12,6 +12,7 @@ use Rattle.x64_syntax.specs.declared.instr.Instr.TheVariants as instr
 use Rattle.x64_syntax.specs.declared.placed.Flow.{Flow}
 use Rattle.x64_syntax.specs.declared.placed.Flow.TheVariants as flow
 use Rattle.x64_syntax.specs.declared.placed.Placed.{Placed}
+use Rattle.x64_syntax.specs.Slots.{placed_slots}
 use Rattle.x64_table.specs.State.{Thread}
 use Rattle.x64_table.specs.Blocks.{x64_block}
 use Rattle.limm_ir.specs.Conditions.{IsSetIn, IsUnlocked, IsSelectable}
@@ -23,6 +24,7 @@ use Rattle.limm_ir.specs.declared.block.IrEnd.TheVariants as ends
 use Rattle.limm_ir.specs.declared.step.IrStep.{IrStep}
 use Rattle.lift_alu.specs.Formulas.{temp, place}
 use Rattle.lift_alu.specs.Flags.{condition_formula}
+use Rattle.lift_alu.specs.Marks.{step_slots, step_fences, instr_fences}
 
 -- registers and flags of a thread and of the steps are the same, and registers hold 64 bits
 pub record SameThread (s : Thread) (i : IrState) : Type 0 where
@@ -77,10 +79,13 @@ LiftsInstr most p temps steps = (may : Permission) (table : ℕ) (s : Thread) (i
 abbrev pub SetsFrom : (temps : ℕ) → List IrStep → Type 0
 SetsFrom temps xs = (t : ℕ) → IsSetIn xs t → (temps ≤ t) × (t < temps + 256)
 
--- these are the steps of an instruction: they do what it does, cost little, use temporaries of its own, and lock nothing
+-- These are the steps of an instruction: they do what it does, cost little, use temporaries of its own, and lock nothing. They
+-- make its accesses, in their order, and have its fence.
 pub record AreStepsOf (p : Placed) (temps : ℕ) (steps : List IrStep) : Type 0 where
   pub meaning : LiftsInstr 62 p temps steps
   pub few : cost_of fenced_cost steps ≤ most_words p
   pub selectable : IsSelectable steps (end_of p temps)
   pub own : SetsFrom temps steps
   pub unlocked : AllByRecursion IsUnlocked steps
+  pub slots : flat_map step_slots steps ≡ placed_slots p
+  pub fences : flat_map step_fences steps ≡ instr_fences p.instr

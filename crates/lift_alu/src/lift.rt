@@ -1,11 +1,13 @@
-ghost use Rattle.std.specs.Prelude.{◌≡◌, ◌≤◌, ◌^◌, true, ◌++◌, IfOk, OnOk};
+ghost use Rattle.std.specs.Prelude.{◌≡◌, ◌≤◌, ◌^◌, true, ◌++◌, IfOk, OnOk, flat_map};
 ghost use Rattle.std.specs.List.{AllByRecursion};
 ghost use Rattle.x64_syntax.specs.Formed.{IsFormed, IsFlowOf};
+ghost use Rattle.x64_syntax.specs.Slots.{placed_slots};
 ghost use Rattle.limm_ir.specs.Conditions.{IsSelectable, IsUnlocked};
 ghost use Rattle.limm_ir.specs.Costs.{cost_of, fenced_cost};
 ghost use Rattle.lift_alu.specs.Built.{is_lifted};
 ghost use Rattle.lift_alu.specs.Formulas.{done};
 ghost use Rattle.lift_alu.specs.Lifted.{lifts_with};
+ghost use Rattle.lift_alu.specs.Marks.{step_slots, step_fences, instr_fences};
 ghost use Rattle.lift_alu.specs.Meant.{after, end_of, most_words, LiftsInstr, SetsFrom};
 ghost use Rattle.lift_alu.specs.SoFar.{so_far};
 
@@ -31,6 +33,8 @@ pub fn lift_instr(alloc: Global, placed: &Placed, temps: u32) -> Result<SmallSte
     ensures selectable { IfOk result (λ xs. IsSelectable xs (end_of placed.now temps)) }
     ensures own { IfOk result (λ xs. SetsFrom temps xs) }
     ensures unlocked { IfOk result (λ xs. AllByRecursion IsUnlocked xs) }
+    ensures slots { IfOk result (λ xs. flat_map step_slots xs ≡ placed_slots placed.now) }
+    ensures fences { IfOk result (λ xs. flat_map step_fences xs ≡ instr_fences placed.now.instr) }
 {
     let lifted = lift_table(alloc, placed, temps)?;
     Ok(lifted)

@@ -1,6 +1,7 @@
 use Rattle.lift_alu.specs.Meant.{after}
 use Rattle.lift_alu.proofs.Lifting.{lifts_counted}
 use Rattle.lift_alu.proofs.Unlocked.{lifts_with_unlocked}
+use Rattle.lift_alu.proofs.Marked.{lifts_slots, lifts_fences}
 use Rattle.lift_alu.proofs.Selectable.{lifts_few, lifts_own, lifts_selectable}
 use Rattle.lift_alu.proofs.lift.lift_instr.Goals as goal
 
@@ -26,3 +27,13 @@ pub returns-clause-unlocked : goal.returns-clause-unlocked
 returns-clause-unlocked c =
     let p = c.args.placed.now in
     rw c.in_ok-lifted.ensures (lifts_with_unlocked p.address (after p) p.flow p.instr c.args.temps)
+
+pub returns-clause-slots : goal.returns-clause-slots
+returns-clause-slots c =
+    let p = c.args.placed.now in
+    rw c.in_ok-lifted.ensures (lifts_slots p.address (after p) p.flow p.instr c.requires.formed c.requires.lifted c.args.temps)
+
+pub returns-clause-fences : goal.returns-clause-fences
+returns-clause-fences c =
+    let p = c.args.placed.now in
+    rw c.in_ok-lifted.ensures (lifts_fences p.address (after p) p.flow p.instr c.requires.formed c.requires.lifted c.args.temps)
