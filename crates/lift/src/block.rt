@@ -6,7 +6,7 @@ ghost use Rattle.cfg_walk.specs.Code.{IsIncreasing};
 ghost use Rattle.limm_ir.specs.Conditions.{IsSelectable, IsUnlocked};
 ghost use Rattle.limm_ir.specs.Costs.{cost_of, fenced_cost};
 ghost use Rattle.lift_alu.specs.Meant.{most_words};
-ghost use Rattle.lift.specs.Block.{AreLifted, LiftsBlock, end_from};
+ghost use Rattle.lift.specs.Block.{AreLifted, AreStepsFrom, LiftsBlock, end_from};
 ghost use Rattle.lift.specs.Recovered.{IsRecovered, IsBlockAt, AreOfBlock};
 
 use crate::placed::lift_placed;
@@ -57,6 +57,7 @@ pub fn lift_block(alloc: Global, code: &Code, block: u32) -> Result<IrBlock, NoM
     ensures few { IfOk result (λ b. (ps : Sequence AnyPlaced) → AreOfBlock code.now block ps → cost_of fenced_cost b.steps ≤ sum_by most_words ps) }
     ensures selectable { IfOk result (λ b. IsSelectable b.steps b.end) }
     ensures unlocked { IfOk result (λ b. AllByRecursion IsUnlocked b.steps) }
+    ensures steps { IfOk result (λ b. (ps : Sequence AnyPlaced) → AreOfBlock code.now block ps → AreStepsFrom 0 ps b.steps) }
 {
     let lifted = lift_placed(alloc, instructions(code, block))?;
     Ok(lifted)

@@ -23,6 +23,7 @@ pub(crate) fn lift_placed(alloc: Global, placed: &[Placed]) -> Result<IrBlock, N
     ensures few { IfOk result (λ b. cost_of fenced_cost b.steps ≤ sum_by most_words placed.now) }
     ensures selectable { IfOk result (λ b. IsSelectable b.steps b.end) }
     ensures unlocked { IfOk result (λ b. AllByRecursion IsUnlocked b.steps) }
+    ensures steps { IfOk result (λ b. AreStepsFrom 0 placed.now b.steps) }
 {
     let steps = lift_each(alloc, placed)?;
     Ok(IrBlock {

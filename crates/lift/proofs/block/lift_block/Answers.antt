@@ -2,7 +2,7 @@ use Rattle.std.proofs.Common.{ap, sym, subst, ◌∙◌}
 use Rattle.std.specs.Prelude.{◌≤◌, sum_by}
 use Rattle.limm_ir.specs.Costs.{cost_of, fenced_cost}
 use Rattle.lift_alu.specs.Meant.{most_words}
-use Rattle.lift.specs.Block.{LiftsBlock, first_of, end_from}
+use Rattle.lift.specs.Block.{AreStepsFrom, LiftsBlock, first_of, end_from}
 use Rattle.lift.proofs.Recovered.{instructions, block_first}
 use Rattle.lift.proofs.block.lift_block.Goals as goal
 
@@ -22,3 +22,6 @@ returns-clause-meaning c = λ ps are.
 pub returns-clause-few : goal.returns-clause-few
 returns-clause-few c = λ ps are.
     subst (λ l. cost_of fenced_cost c.in_ok-lifted.lifted.steps ≤ sum_by most_words l) (sym (c.instructions.ensures.those ps are)) c.in_ok-lifted.ensures.few
+
+pub returns-clause-steps : goal.returns-clause-steps
+returns-clause-steps c = λ ps are. subst (λ l. AreStepsFrom 0 l c.in_ok-lifted.lifted.steps) (sym (c.instructions.ensures.those ps are)) c.in_ok-lifted.ensures.steps

@@ -11,5 +11,7 @@ loop-one-preserved c =
       selectable = c.in_ok-lifted.ensures.selectable;
       own = c.in_ok-lifted.ensures.own;
       unlocked = c.in_ok-lifted.ensures.unlocked;
+      slots = c.in_ok-lifted.ensures.slots;
+      fences = c.in_ok-lifted.ensures.fences;
     } in
     (omega (arith, c.loop-one.invariant.0), steps_next c.args.placed.now c.loop-one.one-index c.loop-one.temps _ _ _ _ c.loop-one-test.true c.loop-one.invariant.0 c.loop-one.invariant.1 one (c.in_ok-extend_from_slice.ensures.items ∙ ap (λ ys. c.loop-one.steps.items ++ ys) c.as_slice.ensures))

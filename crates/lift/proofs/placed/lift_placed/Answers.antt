@@ -17,3 +17,6 @@ returns-clause-selectable c =
 
 pub returns-clause-unlocked : goal.returns-clause-unlocked
 returns-clause-unlocked c = block_unlocked c.args.placed.now 0 c.of.result (subst (AreStepsFrom 0 c.args.placed.now) (sym c.of.ensures) c.in_ok-steps.ensures)
+
+pub returns-clause-steps : goal.returns-clause-steps
+returns-clause-steps c = subst (AreStepsFrom 0 c.args.placed.now) (sym c.of.ensures) c.in_ok-steps.ensures
