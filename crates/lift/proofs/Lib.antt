@@ -2,3 +2,4 @@ mod Meaning
 mod Selectable
 mod Lines
 mod Recovered
+pub mod CallerLemmas

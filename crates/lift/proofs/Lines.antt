@@ -14,7 +14,8 @@ use Rattle.limm_ir.specs.Conditions.{IsSelectable}
 use Rattle.limm_ir.specs.declared.block.IrEnd.{IrEnd}
 use Rattle.limm_ir.specs.declared.step.IrStep.{IrStep}
 use Rattle.lift_alu.specs.Built.{is_built, is_lifted, ends_line}
-use Rattle.lift_alu.specs.Meant.{most_words, words_of}
+use Rattle.lift_alu.specs.Meant.{most_words}
+use Rattle.lift_alu.proofs.CallerLemmas.{words_most}
 use Rattle.lift.specs.Block.{GoOn, LeadOn, IsLiftable, IsLifted, AreLiftable, AreLifted, AreStepsFrom, LiftsBlock, end_from}
 use Rattle.lift.proofs.Meaning.{block_means}
 use Rattle.lift.proofs.Selectable.{block_selectable}
@@ -62,13 +63,7 @@ line_lifted ps line = record {
   lead_on = lead_on ps line.each line.go_on;
 }
 
--- no instruction has more than 62 words
-words_most : (i : Instr) → words_of i ≤ 62
-words_most (instr.Call d) = omega arith
-words_most (instr.Jcc c d) = omega arith
-words_most i = omega arith
-
--- so all have at most 62 for each
+-- instructions have at most 62 words for each of them
 pub all_words : (ps : List Placed) → sum_by most_words ps ≤ 62 * length ps
 all_words [] = omega arith
 all_words (p ∷ ps) = let both = sum_by-cons most_words p ps in omega (arith, both, words_most p.instr, all_words ps)

@@ -353,6 +353,15 @@ module _ (code : Code) (k : ℕ) (recovered : IsRecovered code) (b : Block) (at 
   pub block_lifted : (ps : List Placed) → ps ≡ take b.count (drop place code.placed) → AreLifted ps
   block_lifted = lifted recovered.program code recovered.is_program.segments recovered.is_code b (k, at) place there
 
+-- the instructions of a block are lifted, follow one another, and none but the last ends the block
+pub are_lifted : (code : Code) (k : ℕ) → IsRecovered code → (ps : List Placed) → AreOfBlock code k ps → AreLifted ps
+are_lifted code k recovered [] are = absurd are.are.first
+are_lifted code k recovered (p ∷ ps) are =
+    let (place, at) = are.are.each.0 in
+    let there = λ (j : ℕ) (q : Placed) (other : slice_get code.placed j ≡ Some q) (is : q.address ≡ are.block.first).
+    same_place code.placed recovered.is_code.placed.sorted place j p q at other (are.are.first ∙ sym is) in
+    block_lifted code k recovered are.block are.here place there (p ∷ ps) (block_those code k recovered are.block are.here place there (p ∷ ps) are)
+
 -- a block begins at the first of its instructions
 pub block_first : (code : Code) (k : ℕ) (b : Block) (ps : List Placed) → IsBlockAt code k b → AreOfBlock code k ps → lift.first_of ps ≡ b.first
 block_first code k b ps at are = begins ps (subst (λ (c : Block). AreOf code.placed c ps) (same_block code k are.block b are.here at) are.are).first

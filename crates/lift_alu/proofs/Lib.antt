@@ -24,3 +24,4 @@ mod Liftings
 mod OperandSteps
 mod Selectable
 mod Lifting
+pub mod CallerLemmas

@@ -1,5 +1,5 @@
 //! The lifting of single x86 instructions to steps of the intermediate form.
-//! Others rest on `lift_instr`, by its clauses `meaning`, `few`, `selectable`, `own` and `unlocked`, and on `instr_end`, which says how a block ends.
+//! Others rest on `lift_instr`, by its clauses `meaning`, `few`, `selectable`, `own` and `unlocked`, on `instr_end`, which says how a block ends, and on `is_built`, which says what lines may have so far.
 //! Source: Intel SDM, volume 2, the pages of the instructions; flags by comparisons of words as in Hacker's Delight, chapter 2.
 #![tactic(auto)]
 
