@@ -29,11 +29,11 @@ use Rattle.cfg_walk.specs.declared.code.Block.{Block}
 use Rattle.cfg_walk.specs.declared.code.Code.{Code}
 use Rattle.cfg_walk.specs.Reach.{IsPlaced, end_of, successors}
 use Rattle.cfg_walk.specs.Blocks.{IsLeader, IsStretch, ends, goes-on, BeginAt, Follow, AreOf, ends_block}
-use Rattle.cfg_walk.specs.Blocks.IsLeader.{at-led}
 use Rattle.cfg_walk.specs.Code.{IsCodeOf}
 use Rattle.cfg_walk.specs.Machine.{placed_at, has_address, code_for_threads, thread_step}
 use Rattle.cfg_walk.specs.Running.{IsBegun}
-use Rattle.cfg_walk.proofs.BlockLemmas.{falls, leads, only}
+use Rattle.cfg_walk.proofs.BlockLemmas.{one_placed}
+use Rattle.cfg_walk.proofs.BlockRuns.{behind, last_leads}
 use Rattle.cfg_walk.proofs.Instructions.{AreStretch, block_stretch}
 use Rattle.cfg_walk.proofs.Results.{AllNext}
 use Rattle.cfg_walk.proofs.RowExits.{LeavesTo}
@@ -43,7 +43,7 @@ use Rattle.fence_plan.specs.declared.gap.Gap.{Gap}
 use Rattle.fence_plan.specs.Gaps.{Station, Shared, Strong, gaps}
 use Rattle.fence_plan.specs.Private.{hides}
 use Rattle.fence_plan.specs.Realized.{IsAct, StandsOn, Realizes, RealizesPlan}
-use Rattle.carry_spec.specs.Plan.{IsPlan, slots_at, station, strong, stations_of, block_gaps}
+use Rattle.carry_spec.specs.Plan.{IsPlan, station, strong, stations_of, block_gaps}
 use Rattle.translate_core.proofs.RowStations.{kind_station, of_row, row_realizes}
 
 -- ---- trees of exits
@@ -87,24 +87,7 @@ of_row_is private p =
     ap (λ l. l ++ flat_map (kind_station private p.address) (slot_kinds p.instr p.flow)) (sym (strong_is p.instr))
     ∙ ap (λ l. strong p.instr ++ l) (sym (kinds_are private p.address (slots p.instr p.flow)))
 
--- ---- where a stretch leads
-
-some_same : {A : Type 0} {x y : A} → Some x ≡ Some y → x ≡ y
-some_same e = cc
-
--- the one successor of an instruction with which no block ends
-pub behind : (p : Placed) (a : ℕ) → ends_block p.instr ≡ false → StandsIn (successors p) a → a ≡ end_of p
-behind p a open_it at = only (end_of p) a at.0 (subst (λ xs. slice_get xs at.0 ≡ Some a) (falls p.instr p.flow (end_of p) open_it) at.1)
-
--- from the last instruction of a stretch control comes to where a block may begin
-last_leads : (program : Program) (p : Placed) → IsPlaced program p → (ends_block p.instr ≡ true) ⊎ IsLeader program (end_of p) → (a : ℕ) → StandsIn (successors p) a → IsLeader program a
-last_leads program p placed end a at = elim (leads p.instr p.flow (end_of p) a at) [
-  | inl led_to ↦ at-led p placed led_to
-  | inr fallen ↦ elim end [
-    | inl closed ↦ absurd (let open_it = fallen.0 in cc)
-    | inr leader ↦ subst (IsLeader program) (sym fallen.1) leader
-  ]
-]
+-- ---- blocks
 
 -- behind each instruction but the last no block begins
 abbrev pub AreInner : Program → List Placed → Type 0
@@ -113,12 +96,6 @@ AreInner program (p ∷ []) = Unit {0}
 AreInner program (p ∷ q ∷ ps) = (IsLeader program (end_of p) → ⊥) × AreInner program (q ∷ ps)
 
 module _ (program : Program) (code : Code) (is : IsCodeOf program code) where
-  -- one instruction is placed at an address
-  one_placed : (p q : Placed) → IsPlaced program p → IsPlaced program q → p.address ≡ q.address → p ≡ q
-  one_placed p q first second same =
-      let found = (finds_code program code is).placed in
-      some_same (sym ((found q.address p).1 (first, same)) ∙ (found q.address q).1 (second, refl))
-
   placed_of : (p : Placed) → StandsIn code.placed p → IsPlaced program p
   placed_of p at = (is.placed.exact p).0 at
 
@@ -127,11 +104,11 @@ module _ (program : Program) (code : Code) (is : IsCodeOf program code) where
   stretch_inner (p ∷ []) stretch many begin follow each = tt
   stretch_inner (p ∷ r ∷ ps) (ends q placed end) many begin follow each = absurd (omega (arith, many))
   stretch_inner (p ∷ r ∷ ps) (goes-on {n = n} q placed open_it inside rest) many begin follow each =
-      let same : p ≡ q = one_placed p q (placed_of p each.0) placed begin in
+      let same : p ≡ q = one_placed program p q (placed_of p each.0) placed begin in
       let here : r.address ≡ end_of q = follow.0 ∙ ap end_of same in
       ((λ leader. inside (subst (λ (x : Placed). IsLeader program (end_of x)) same leader)), stretch_inner (r ∷ ps) rest (omega (arith, many)) here follow.1 each.1)
 
-  block_inner : (b : Block) (ps : List Placed) → StandsIn code.blocks b → AreOf code.placed b ps → AreInner program ps
+  pub block_inner : (b : Block) (ps : List Placed) → StandsIn code.blocks b → AreOf code.placed b ps → AreInner program ps
   block_inner b ps at are = stretch_inner ps ((is.blocks.exact b).0 at).stretch are.many are.first are.follow are.each
 
   module _ (segments : AllByRecursion IsSegment program.parts) (private : Slot → Bool) (plan : ℕ → Option (List Gap)) (is_plan : IsPlan private code plan) where

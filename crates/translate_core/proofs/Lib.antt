@@ -6,3 +6,10 @@ pub mod RowStations
 pub mod CodeRealizes
 pub mod BlockWithin
 pub mod Passes
+pub mod Made
+pub mod BlockFollowed
+pub mod ThreadFollows
+pub mod ThreadCarried
+pub mod PlanOf
+pub mod BlockStations
+pub mod EachThread
