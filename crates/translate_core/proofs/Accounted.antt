@@ -1,11 +1,10 @@
 -- The explanation of an execution of an image accounts for it.
 use Rattle.std.proofs.Common.{◌≡◌, ◌⊎◌, inl, inr, ℕ, zero, suc, ◌+◌, ◌<◌, Bool, true, false, not, ◌&&◌, List, [], ◌∷◌, ◌++◌, length, slice_get, Option, Some, None, arith, sym, ◌∙◌, ap, refl, subst}
-use Rattle.std.specs.Prelude.{IsSome, IsSomeAnd, map}
+use Rattle.std.specs.Prelude.{IsSome, IsSomeAnd}
 use Rattle.std.specs.Option.{option_map}
 use Rattle.std.specs.List.{AllByRecursion}
 use Rattle.std.proofs.lemmas.Option.{slice_get-map, slice_get_within}
 use Rattle.ev_graph.specs.declared.events.Access.{Access}
-use Rattle.ev_graph.specs.declared.events.AccessKind.{AccessKind}
 use Rattle.ev_graph.specs.declared.events.End.{End}
 use Rattle.ev_graph.specs.declared.events.EventId.{EventId}
 use Rattle.ev_graph.specs.declared.events.FenceItem.{FenceItem}
@@ -19,19 +18,19 @@ use Rattle.ev_graph.specs.declared.execution.ThreadRun.{ThreadRun}
 use Rattle.ev_graph.specs.Memory.{cells_of, memory, Fits}
 use Rattle.ev_graph.specs.Start.{start_at}
 use Rattle.ev_graph.specs.Events.{Event, event, events, accesses, accesses_before, items_of, IsIn, IsRead, IsWrite, IsLocked, Overlap, FenceBetween}
-use Rattle.ev_graph.specs.Pairs.{Po, External, Rmw}
+use Rattle.ev_graph.specs.Pairs.{Rmw}
 use Rattle.ev_graph.specs.WellFormed.{is_write, WellFormed}
 use Rattle.ev_graph.proofs.Threads.{items_of_some, items_of_none}
 use Rattle.order_models.specs.Orders.{Arm, Tso}
 use Rattle.order_models.specs.Consistent.{Consistent}
-use Rattle.graph_maps.specs.Needs.{SameEvents, MfencesFrom, arm_fences, IsMappedIn, HasMappingFences, HasPrivate}
+use Rattle.graph_maps.specs.Needs.{SameEvents, MfencesFrom, arm_fences, HasMappingFences, HasPrivate}
 use Rattle.graph_maps.proofs.ToTso.{arm_is_tso_lem}
 use Rattle.graph_maps.proofs.Sources.{well_formed_has_sources_lem}
 use Rattle.behavior.specs.Acts.{Permission}
 use Rattle.behavior.specs.Run.{Run}
 use Rattle.behavior.specs.Seen.{trace, given, counted, all_items}
 use Rattle.behavior.specs.Numbered.{numbered, numbered_from}
-use Rattle.behavior.specs.Kept.{Backward, BackwardBy}
+use Rattle.behavior.specs.Kept.{Backward}
 use Rattle.behavior.specs.Explained.{Explains}
 use Rattle.behavior.proofs.Explanations.{explained, explanation_trace, explanation_first}
 use Rattle.behavior.proofs.SeenLemmas.{given-trace, counted-trace}
@@ -46,7 +45,7 @@ use Rattle.cfg_walk.specs.Machine.{code_for_threads, thread_step}
 use Rattle.fence_plan.specs.Private.{is_private, slot_kind, privacy}
 use Rattle.fence_plan.specs.Planned.{Follows}
 use Rattle.fence_plan.specs.Guards.{Guards, open_at_start}
-use Rattle.fence_plan.proofs.CallerLemmas.{bare, is_hidden, turn_is, Mapping, IsNextPair, IsPlannedFor, followed_mapping, followed_full}
+use Rattle.fence_plan.proofs.CallerLemmas.{bare, is_hidden, turn_is, IsPlannedFor, followed_mapping, followed_full}
 use Rattle.carry_spec.specs.Threads.{x64_start, a64_start, allowed, x64_thread, a64_thread, OnThreads, OfEachThread}
 use Rattle.carry_spec.specs.Executions.{IsRunOf, IsInputThread, IsInputExecution, IsImageExecution}
 use Rattle.carry_spec.specs.Explained.{ExplainsThread, IsExplanation, IsTame, Accounts}

@@ -21,7 +21,7 @@ use Rattle.fence_plan.specs.Dressed.{dressed}
 use Rattle.fence_plan.specs.Gaps.{gaps}
 use Rattle.fence_plan.specs.Planned.{first_given, later_gaps, shared_view, IsFence}
 use Rattle.fence_plan.specs.Private.{privacy}
-use Rattle.fence_merge.specs.Follows.{IsAtState, FollowsGaps}
+use Rattle.fence_merge.specs.Follows.{IsAtState}
 use Rattle.fence_merge.specs.Roles.{stations, unfenced}
 use Rattle.fence_merge.proofs.CallerLemmas.{block_follows, IsNoBarrier, same_privacy, same_dressed}
 use Rattle.a64_code.specs.declared.instr.XReg.{XReg}
@@ -29,7 +29,7 @@ use Rattle.a64_code.specs.declared.instr.A64.{A64}
 use Rattle.a64_table.specs.State.{xregs, AState}
 use Rattle.a64_block.specs.Blocks.{a64_block}
 use Rattle.a64_block.specs.declared.block.AEnd.{AEnd}
-use Rattle.carry_spec.specs.Plan.{stations_of, block_gaps}
+use Rattle.carry_spec.specs.Plan.{block_gaps}
 use Rattle.translate_core.proofs.Made.{path_all, block_none}
 use Rattle.translate_core.proofs.Passes.{Alike, Passes, steps_state, numbers_of, thread_state, start_numbered, same_named, block_fences, passed_point, placed_full-to_placed}
 

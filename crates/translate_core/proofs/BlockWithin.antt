@@ -1,21 +1,16 @@
 -- The instructions of a block, taken one behind the other, are one block within which no other begins; and such a block makes
 -- what the plan counts.
-use Rattle.std.proofs.Common.{◌≡◌, ◌⊎◌, inl, inr, ℕ, ◌<◌, ◌==◌, Bool, true, false, List, [], ◌∷◌, Option, Some, None, refl, sym, ap, subst, ◌∙◌}
+use Rattle.std.proofs.Common.{◌≡◌, inl, inr, ℕ, Bool, List, [], ◌∷◌, Option, Some, sym, ap, subst, ◌∙◌}
 use Rattle.std.specs.Prelude.{if◌then◌else◌}
 use Rattle.std.specs.List.{AllByRecursion}
 use Rattle.ev_graph.specs.Places.{StandsIn}
-use Rattle.ev_graph.specs.declared.events.End.TheVariants.{Halted}
-use Rattle.ev_graph.specs.declared.events.TrapKind.TheVariants.{BadReturn}
 use Rattle.behavior.specs.Tree.{Tree, Gives, Begins, Acts, Next, Goes, Stops, ◌then◌}
-use Rattle.behavior.specs.Acts.{Permission, goes, traps}
-use Rattle.behavior.specs.Exits.{arrives, lands, or_trap}
-use Rattle.behavior.proofs.Paths.{then-assoc}
+use Rattle.behavior.specs.Acts.{Permission}
 use Rattle.behavior.proofs.Unfolding.{AllResults}
 use Rattle.x64_syntax.specs.declared.placed.Placed.{Placed}
 use Rattle.x64_syntax.specs.declared.slots.Slot.{Slot}
 use Rattle.x64_table.specs.State.{Thread}
 use Rattle.x64_table.specs.Rows.{Exit, State, Return, Indexed, row_of}
-use Rattle.x64_table.specs.Blocks.{goes_on, x64_block}
 use Rattle.x64_table.specs.Machine.{no_entries, resolve, x64_take}
 use Rattle.elf_read.specs.Elf.{IsSegment}
 use Rattle.code_at.specs.Code.{Program}
@@ -23,8 +18,8 @@ use Rattle.cfg_walk.specs.declared.code.Code.{Code}
 use Rattle.cfg_walk.specs.Reach.{IsPlaced, end_of, successors}
 use Rattle.cfg_walk.specs.Blocks.{BeginAt}
 use Rattle.cfg_walk.specs.Code.{IsCodeOf}
-use Rattle.cfg_walk.specs.Machine.{has_address, code_for_threads, exits_of, thread_step}
-use Rattle.cfg_walk.specs.Running.{at_arrival, whole_step}
+use Rattle.cfg_walk.specs.Machine.{has_address, code_for_threads, thread_step}
+use Rattle.cfg_walk.specs.Running.{whole_step}
 use Rattle.cfg_walk.proofs.BlockRuns.{behind, on, whole_is, return_is}
 use Rattle.cfg_walk.proofs.CallerLemmas.{finds_code, row_of_placed}
 use Rattle.cfg_walk.proofs.Instructions.{AreStretch}

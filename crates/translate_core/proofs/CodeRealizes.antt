@@ -1,9 +1,8 @@
 -- A program's code realizes its plan: each step of a thread makes what the plan counts, and where a block begins the plan says
 -- its gaps.
-use Rattle.std.proofs.Common.{◌≡◌, ◌⊎◌, inl, inr, ◌==◌, ℕ, suc, ◌+◌, ◌<◌, Bool, true, false, List, [], ◌∷◌, ◌++◌, length, Option, Some, None, refl, sym, ap, subst, ◌∙◌, arith}
-use Rattle.std.specs.Prelude.{if◌then◌else◌, flat_map, map, slice_get}
+use Rattle.std.proofs.Common.{◌≡◌, inl, inr, ◌==◌, ℕ, Bool, true, false, List, [], ◌∷◌, ◌++◌, length, Option, Some, None, refl, sym, ap, subst, ◌∙◌, arith}
+use Rattle.std.specs.Prelude.{if◌then◌else◌, flat_map, map}
 use Rattle.std.specs.List.{AllByRecursion}
-use Rattle.std.proofs.lemmas.List.{append-nil, append_assoc}
 use mathlib.Core.Path.{fun_ext}
 use Rattle.ev_graph.specs.Places.{StandsIn}
 use Rattle.ev_graph.specs.declared.events.End.TheVariants.{Halted}
@@ -15,7 +14,6 @@ use Rattle.x64_syntax.specs.declared.instr.Instr.TheVariants as instr
 use Rattle.x64_syntax.specs.declared.instr_slots.InstrSlot.{InstrSlot}
 use Rattle.x64_syntax.specs.declared.placed.Placed.{Placed}
 use Rattle.x64_syntax.specs.declared.slots.Slot.{Slot}
-use Rattle.x64_syntax.specs.declared.slots.SlotKind.{SlotKind}
 use Rattle.x64_syntax.specs.Slots.{slots}
 use Rattle.x64_table.specs.Laws.{slot_kinds}
 use Rattle.x64_table.specs.State.{Thread}
@@ -28,9 +26,9 @@ use Rattle.code_at.proofs.CallerLemmas.{is_formed}
 use Rattle.cfg_walk.specs.declared.code.Block.{Block}
 use Rattle.cfg_walk.specs.declared.code.Code.{Code}
 use Rattle.cfg_walk.specs.Reach.{IsPlaced, end_of, successors}
-use Rattle.cfg_walk.specs.Blocks.{IsLeader, IsStretch, ends, goes-on, BeginAt, Follow, AreOf, ends_block}
+use Rattle.cfg_walk.specs.Blocks.{IsLeader, IsStretch, ends, goes-on, BeginAt, Follow, AreOf}
 use Rattle.cfg_walk.specs.Code.{IsCodeOf}
-use Rattle.cfg_walk.specs.Machine.{placed_at, has_address, code_for_threads, thread_step}
+use Rattle.cfg_walk.specs.Machine.{has_address, code_for_threads, thread_step}
 use Rattle.cfg_walk.specs.Running.{IsBegun}
 use Rattle.cfg_walk.proofs.BlockLemmas.{one_placed}
 use Rattle.cfg_walk.proofs.BlockRuns.{behind, last_leads}
@@ -40,10 +38,9 @@ use Rattle.cfg_walk.proofs.RowExits.{LeavesTo}
 use Rattle.cfg_walk.proofs.CallerLemmas.{finds_code, leader_begins, have_instructions, row_of_placed}
 use Rattle.cfg_walk.proofs.Whole.{site_leads}
 use Rattle.fence_plan.specs.declared.gap.Gap.{Gap}
-use Rattle.fence_plan.specs.Gaps.{Station, Shared, Strong, gaps}
-use Rattle.fence_plan.specs.Private.{hides}
-use Rattle.fence_plan.specs.Realized.{IsAct, StandsOn, Realizes, RealizesPlan}
-use Rattle.carry_spec.specs.Plan.{IsPlan, station, strong, stations_of, block_gaps}
+use Rattle.fence_plan.specs.Gaps.{Station, Strong, gaps}
+use Rattle.fence_plan.specs.Realized.{Realizes, RealizesPlan}
+use Rattle.carry_spec.specs.Plan.{IsPlan, station, strong, stations_of}
 use Rattle.translate_core.proofs.RowStations.{kind_station, of_row, row_realizes}
 
 -- ---- trees of exits

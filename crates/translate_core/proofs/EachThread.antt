@@ -1,16 +1,15 @@
 -- The threads of an input and of its image: what each run of one has beside it in the other.
-use Rattle.std.proofs.Common.{◌≡◌, ℕ, zero, suc, ◌+◌, ◌*◌, ◌-◌, ◌^◌, ◌<◌, ◌≤◌, ◌==◌, Bool, true, false, List, [], ◌∷◌, ◌++◌, length, Option, Some, None, arith, sym, ◌∙◌, ap, refl, subst}
+use Rattle.std.proofs.Common.{◌≡◌, ℕ, zero, suc, ◌+◌, ◌*◌, ◌-◌, ◌^◌, ◌<◌, ◌≤◌, ◌==◌, Bool, true, false, List, [], ◌∷◌, ◌++◌, length, Some, arith, sym, ◌∙◌, ap, refl, subst}
 use Rattle.std.specs.Prelude.{if◌then◌else◌, slice_get, map}
 use Rattle.std.specs.Option.{option_map}
 use Rattle.std.specs.List.{AllByRecursion}
 use Rattle.std.proofs.Math.Nat.{mul-le-mul_right}
 use Rattle.std.proofs.lemmas.Option.{slice_get-map, slice_get_within}
 use Rattle.ev_graph.specs.Places.{StandsIn}
-use Rattle.ev_graph.specs.Memory.{Part, IsStack, IsOffStacks}
+use Rattle.ev_graph.specs.Memory.{IsStack, IsOffStacks}
 use Rattle.ev_graph.specs.declared.execution.Stack.{Stack}
 use Rattle.behavior.specs.Acts.{Permission}
-use Rattle.behavior.specs.Seen.{trace}
-use Rattle.behavior.specs.Kept.{Forward, ForwardBy}
+use Rattle.behavior.specs.Kept.{Forward}
 use Rattle.x64_syntax.specs.declared.slots.Slot.{Slot}
 use Rattle.x64_table.specs.State.{Thread}
 use Rattle.elf_read.specs.Elf.{IsSegment}
@@ -21,7 +20,6 @@ use Rattle.cfg_walk.specs.declared.code.Code.{Code}
 use Rattle.cfg_walk.specs.Code.{IsFileCode}
 use Rattle.cfg_walk.specs.Machine.{exits_of, thread_step}
 use Rattle.fence_place.specs.Marked.{marked}
-use Rattle.fence_plan.specs.declared.gap.Gap.{Gap}
 use Rattle.fence_plan.specs.Planned.{FollowsPlan}
 use Rattle.a64_code.specs.declared.instr.XReg.{XReg}
 use Rattle.a64_table.specs.State.{AState}
@@ -29,8 +27,7 @@ use Rattle.a64_table.specs.Machine.{AThread, a64_step}
 use Rattle.a64_block.specs.declared.block.ABlock.{ABlock}
 use Rattle.code_layout.specs.Carried.{IsCarriedOut}
 use Rattle.code_layout.specs.Places.{place_from, IsBegun}
-use Rattle.carry_spec.specs.Plan.{IsPlan}
-use Rattle.carry_spec.specs.Threads.{start_bank, x64_start, a64_start, allowed, x64_thread, a64_thread, OnThreads, OfEachThread}
+use Rattle.carry_spec.specs.Threads.{start_bank, x64_start, a64_start, allowed, OnThreads, OfEachThread}
 use Rattle.carry_spec.specs.Carries.{EachFollowsPlan}
 use Rattle.translate_core.proofs.Accounted.{IsPlanned}
 use Rattle.translate_core.proofs.Passes.{Alike}

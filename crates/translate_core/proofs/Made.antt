@@ -1,5 +1,5 @@
 -- What fences the three kinds of machines make: Arm's make barriers of Arm, the others none.
-use Rattle.std.proofs.Common.{◌≡◌, ℕ, zero, suc, ◌^◌, ◌%◌, ◌==◌, ◌<◌, ◌&&◌, Bool, true, false, List, [], ◌∷◌, ◌++◌, Option, Some, None, refl, sym, ap, ◌∙◌}
+use Rattle.std.proofs.Common.{◌≡◌, ℕ, zero, suc, ◌^◌, ◌%◌, ◌==◌, ◌&&◌, Bool, true, false, List, [], ◌∷◌, Option, Some, None, refl, ap}
 use Rattle.std.specs.Prelude.{if◌then◌else◌}
 use Rattle.std.specs.List.{AllByRecursion}
 use Rattle.ev_graph.specs.declared.events.AccessKind.TheVariants.{Read}
@@ -10,7 +10,6 @@ use Rattle.ev_graph.specs.declared.events.Item.TheVariants as items
 use Rattle.ev_graph.specs.declared.events.TrapKind.TheVariants.{BadAccess}
 use Rattle.behavior.specs.Tree.{Tree, Gives, Begins, Acts, Point, Path, cut, gives, begins, acts, Next, ◌then◌, ticks}
 use Rattle.behavior.specs.Acts.{Permission, goes, traps, access, locked_write, exchanges}
-use Rattle.behavior.specs.Leaving.{Left}
 use Rattle.behavior.specs.Seen.{barrier}
 use Rattle.behavior.specs.Unfolds.{Unfolds, block-ends, block-goes, block-begins, block-acts}
 use Rattle.behavior.proofs.Lists.{all_append}

@@ -1,17 +1,15 @@
 -- Each code has its plan.
-use Rattle.std.proofs.Common.{◌≡◌, ◌⊎◌, inl, inr, ◌==◌, ℕ, zero, suc, ◌<◌, Bool, true, false, List, [], ◌∷◌, map, slice_get, Option, Some, None, refl, sym, ap, ◌∙◌, subst, arith}
+use Rattle.std.proofs.Common.{◌≡◌, inl, inr, ◌==◌, ℕ, zero, suc, Bool, true, false, List, [], ◌∷◌, map, slice_get, Option, Some, None, refl, sym, ap, ◌∙◌, arith}
 use Rattle.std.specs.Prelude.{if◌then◌else◌}
 use Rattle.std.specs.Option.{option_map}
 use Rattle.std.proofs.lemmas.Bool.{cases_order}
 use Rattle.std.proofs.lemmas.Bool.Decides.{nat_tests}
 use Rattle.std.proofs.lemmas.Option.{slice_get-map}
 use Rattle.ev_graph.specs.Places.{StandsIn}
-use Rattle.x64_syntax.specs.declared.placed.Placed.{Placed}
 use Rattle.x64_syntax.specs.declared.slots.Slot.{Slot}
 use Rattle.code_at.specs.Code.{Program}
 use Rattle.cfg_walk.specs.declared.code.Block.{Block}
 use Rattle.cfg_walk.specs.declared.code.Code.{Code}
-use Rattle.cfg_walk.specs.Blocks.{AreOf}
 use Rattle.cfg_walk.specs.Code.{IsCodeOf, IsIncreasing}
 use Rattle.cfg_walk.specs.Running.{block_at, instructions_of}
 use Rattle.cfg_walk.proofs.ByBlocks.{block_found}

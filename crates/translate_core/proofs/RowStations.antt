@@ -1,14 +1,11 @@
 -- The rows of instructions make what the plan counts of them.
-use Rattle.std.proofs.Common.{◌≡◌, ℕ, ◌^◌, ◌%◌, ◌<◌, Bool, true, false, not, ◌&&◌, List, [], ◌∷◌, ◌++◌, Option, Some, None, refl, sym, ap, ◌∙◌, subst}
-use Rattle.std.specs.Prelude.{if◌then◌else◌, map, flat_map}
+use Rattle.std.proofs.Common.{◌≡◌, ℕ, ◌^◌, ◌%◌, Bool, true, false, ◌&&◌, List, [], ◌∷◌, ◌++◌, Option, Some, None, refl, sym, ap, ◌∙◌, subst}
+use Rattle.std.specs.Prelude.{if◌then◌else◌, flat_map}
 use Rattle.std.proofs.lemmas.List.{append-nil, append_assoc}
 use Rattle.ev_graph.specs.declared.events.AccessKind.{AccessKind}
 use Rattle.ev_graph.specs.declared.events.AccessKind.TheVariants as access
-use Rattle.ev_graph.specs.declared.events.FenceKind.TheVariants.{Mfence}
-use Rattle.ev_graph.specs.declared.events.Item.{Item}
-use Rattle.ev_graph.specs.declared.events.Item.TheVariants as items
 use Rattle.ev_graph.specs.declared.events.TrapKind.TheVariants.{BadAccess}
-use Rattle.behavior.specs.Tree.{Tree, Gives, Begins, Acts, Next, Goes, Stops, ◌then◌}
+use Rattle.behavior.specs.Tree.{Tree, Gives, Acts, Next, Goes, Stops, ◌then◌}
 use Rattle.behavior.specs.Acts.{Permission, access as access_item, goes, traps, reads, writes, makes, locked_write, takes_in, puts_out}
 use Rattle.x64_syntax.specs.declared.slots.Slot.{Slot}
 use Rattle.x64_syntax.specs.declared.slots.SlotKind.{SlotKind}
@@ -16,7 +13,7 @@ use Rattle.x64_syntax.specs.declared.slots.SlotKind.TheVariants.{Read, Write, Lo
 use Rattle.x64_table.specs.Rows.{Exit, Row}
 use Rattle.x64_table.proofs.CallerLemmas.{Shape, ends, still, fence, read, write, change, lock, call-in, call-out, jump-in, jump-out}
 use Rattle.fence_plan.specs.declared.gap.Gap.{Gap}
-use Rattle.fence_plan.specs.Private.{is_private, slot_kind, hides, hides_kind}
+use Rattle.fence_plan.specs.Private.{slot_kind, hides}
 use Rattle.fence_plan.specs.Gaps.{Station, Shared, Strong}
 use Rattle.fence_plan.specs.Realized.{IsAct, silent, input, output, hidden, shared, pair, strong, Realizes}
 use Rattle.fence_plan.specs.Realized as act

@@ -1,15 +1,13 @@
 -- Runs of a thread of the image, with the planned fences of the program's runs; and runs of the program's thread in the image.
-use Rattle.std.proofs.Common.{◌≡◌, ◌⊎◌, inl, inr, ℕ, ◌+◌, ◌<◌, Bool, true, false, List, [], ◌∷◌, ◌++◌, Option, Some, None, refl, sym, ap, ◌∙◌, subst, arith}
+use Rattle.std.proofs.Common.{◌≡◌, inr, ℕ, ◌+◌, Bool, true, false, List, [], ◌∷◌, Option, refl, sym, ap, ◌∙◌, subst}
 use Rattle.std.specs.Prelude.{if◌then◌else◌}
 use Rattle.std.specs.List.{AllByRecursion}
 use Rattle.ev_graph.specs.Places.{StandsIn}
-use Rattle.ev_graph.specs.declared.events.End.{End}
 use Rattle.ev_graph.specs.declared.events.Item.{Item}
 use Rattle.ev_graph.specs.declared.events.Item.TheVariants as items
-use Rattle.behavior.specs.Tree.{Tree, Gives, Begins, Next, Goes, Stops, ◌then◌}
-use Rattle.behavior.specs.Run.{Run}
+use Rattle.behavior.specs.Tree.{Tree, Gives, Next, Goes, Stops, ◌then◌}
 use Rattle.behavior.specs.Acts.{Permission, goes}
-use Rattle.behavior.specs.Exits.{Exits, Arrived, arrives, lands, resolved}
+use Rattle.behavior.specs.Exits.{Arrived, arrives, lands, resolved}
 use Rattle.behavior.specs.Leaving.{Left, SameLeft}
 use Rattle.behavior.specs.Seen.{trace}
 use Rattle.behavior.specs.Kept.{ForwardBy, SameNext, both-go, both-stop, Keeps}
@@ -29,13 +27,11 @@ use Rattle.cfg_walk.specs.declared.code.Code.{Code}
 use Rattle.cfg_walk.specs.Code.{IsCodeOf}
 use Rattle.cfg_walk.specs.Machine.{exits_of, thread_step}
 use Rattle.cfg_walk.specs.Blocks.{BeginAt}
-use Rattle.cfg_walk.specs.Running.{at_arrival, RunsBlock, whole_step}
+use Rattle.cfg_walk.specs.Running.{at_arrival, whole_step}
 use Rattle.cfg_walk.proofs.CallerLemmas.{run_blocks}
 use Rattle.fence_place.specs.Marked.{marked}
 use Rattle.fence_plan.specs.declared.gap.Gap.{Gap}
-use Rattle.fence_plan.specs.Planned.{is_barrier, Follows}
-use Rattle.fence_plan.specs.Private.{is_private}
-use Rattle.fence_plan.specs.Guards.{Guards, open_at_start}
+use Rattle.fence_plan.specs.Planned.{is_barrier}
 use Rattle.fence_plan.proofs.CallerLemmas.{planned_guards, bare, run_bare}
 use Rattle.a64_code.specs.declared.instr.XReg.{XReg}
 use Rattle.a64_table.specs.State.{xregs, AState}

@@ -1,6 +1,6 @@
 -- A thread of an image, whose words carry out the blocks that the passes made of a program's code, does what the program's
 -- thread does, and follows the plan.
-use Rattle.std.proofs.Common.{◌≡◌, ◌≢◌, ◌⊎◌, inl, inr, ℕ, zero, suc, ◌+◌, ◌*◌, ◌≤◌, ◌<◌, Bool, true, false, List, [], ◌∷◌, ◌++◌, Option, Some, None, refl, sym, ap, ◌∙◌, subst, arith}
+use Rattle.std.proofs.Common.{◌≡◌, ◌≢◌, ℕ, ◌+◌, Bool, true, false, List, [], ◌∷◌, ◌++◌, Option, refl, sym, ap, ◌∙◌, subst, arith}
 use Rattle.std.specs.Prelude.{flat_map, if◌then◌else◌}
 use Rattle.std.specs.List.{AllByRecursion}
 use Rattle.std.proofs.lemmas.List.{append-nil}
@@ -10,13 +10,13 @@ use Rattle.ev_graph.specs.declared.events.Item.{Item}
 use Rattle.ev_graph.specs.declared.events.Item.TheVariants as items
 use Rattle.behavior.specs.Tree.{Tree, Gives, Begins, Point, Cut, At, Path, cut, gives, Next, Goes, Stops, ◌then◌}
 use Rattle.behavior.specs.Acts.{Permission, goes}
-use Rattle.behavior.specs.Exits.{Exits, Arrived, arrives, lands, resolved}
+use Rattle.behavior.specs.Exits.{Arrived, arrives, lands, resolved}
 use Rattle.behavior.specs.Leaving.{Left, SameLeft}
 use Rattle.behavior.specs.Seen.{trace, lowered}
-use Rattle.behavior.specs.Kept.{ForwardBy, SamePoint, both-cut, both-at, SameNext, both-go, both-stop, Keeps}
+use Rattle.behavior.specs.Kept.{SamePoint, both-cut, both-at, SameNext, both-go, both-stop}
 use Rattle.behavior.specs.Unfolds.{Unfolds}
 use Rattle.behavior.proofs.Paths.{then-assoc, path_at, path_cut, path_stop, path_then, Split, within, ended, beyond, split}
-use Rattle.behavior.proofs.SeenLemmas.{lowered-to_trace, sees-trace}
+use Rattle.behavior.proofs.SeenLemmas.{lowered-to_trace}
 use Rattle.x64_syntax.specs.declared.placed.Placed.{Placed}
 use Rattle.x64_syntax.specs.declared.slots.Slot.{Slot}
 use Rattle.x64_table.specs.State.{Thread}
@@ -35,11 +35,10 @@ use Rattle.fence_place.specs.Marked.{marked}
 use Rattle.fence_plan.specs.declared.gap.Gap.{Gap}
 use Rattle.fence_plan.specs.Dressed.{dressed, begins_gap}
 use Rattle.fence_plan.specs.Gaps.{Station}
-use Rattle.fence_plan.specs.Planned.{first_given, later_gaps, Planning, shared_view, IsFence, FollowsPlan}
+use Rattle.fence_plan.specs.Planned.{first_given, later_gaps, shared_view, IsFence, FollowsPlan}
 use Rattle.fence_plan.specs.Private.{is_private, privacy}
 use Rattle.fence_plan.specs.Realized.{Realizes}
 use Rattle.fence_plan.proofs.CallerLemmas.{StopsAlike, MayMiss, FollowsBlock, BlocksFollow, blocks_follow, at_left, path_dressed}
-use Rattle.fence_merge.specs.Follows.{IsAtState}
 use Rattle.fence_merge.proofs.CallerLemmas.{IsBarrier, IsNoBarrier, view-given, given_fences, view-lowered}
 use Rattle.a64_code.specs.declared.instr.XReg.{XReg}
 use Rattle.a64_table.specs.State.{xregs, AState}
@@ -47,7 +46,7 @@ use Rattle.a64_table.specs.Machine.{AThread, a64_step}
 use Rattle.a64_block.specs.Blocks.{a64_block}
 use Rattle.a64_block.specs.declared.block.ABlock.{ABlock}
 use Rattle.code_layout.specs.Carried.{ArrivesAt, IsCarriedOut}
-use Rattle.code_layout.specs.Places.{place_from, IsBegun}
+use Rattle.code_layout.specs.Places.{place_from}
 use Rattle.code_layout.proofs.CallerLemmas.{StandsFor}
 use Rattle.carry_spec.specs.Plan.{IsPlan, stations_of, block_gaps}
 use Rattle.translate_core.proofs.BlockFollowed.{Followed, block_followed}
