@@ -30,8 +30,9 @@ use Rattle.a64_table.specs.State.{xregs, AState}
 use Rattle.a64_block.specs.Blocks.{a64_block}
 use Rattle.a64_block.specs.declared.block.AEnd.{AEnd}
 use Rattle.carry_spec.specs.Plan.{block_gaps}
+use Rattle.translate_core.specs.Passed.{Passes}
 use Rattle.translate_core.proofs.Made.{path_all, block_none}
-use Rattle.translate_core.proofs.Passes.{Alike, Passes, steps_state, numbers_of, thread_state, start_numbered, same_named, block_fences, passed_point, placed_full-to_placed}
+use Rattle.translate_core.proofs.Passes.{Alike, steps_state, numbers_of, thread_state, start_numbered, same_named, block_fences, passed_point, placed_full-to_placed}
 
 -- The path of words that made these items and stops here has one of the instructions beside it, with its accesses, inputs and
 -- outputs; its barriers are those of these gaps. Those of a gap that it is cut in may be missing.

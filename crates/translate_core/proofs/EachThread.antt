@@ -29,12 +29,13 @@ use Rattle.code_layout.specs.Carried.{IsCarriedOut}
 use Rattle.code_layout.specs.Places.{place_from, IsBegun}
 use Rattle.carry_spec.specs.Threads.{start_bank, x64_start, a64_start, allowed, OnThreads, OfEachThread}
 use Rattle.carry_spec.specs.Carries.{EachFollowsPlan}
+use Rattle.translate_core.specs.Passed.{IsPassed}
 use Rattle.translate_core.proofs.Accounted.{IsPlanned}
 use Rattle.translate_core.proofs.Passes.{Alike}
 use Rattle.translate_core.proofs.Permitted.{same_allowed}
 use Rattle.translate_core.proofs.PlanOf.{plan_for, is_plan_for}
 use Rattle.translate_core.proofs.ThreadCarried.{thread_planned, thread_forward}
-use Rattle.translate_core.proofs.ThreadFollows.{IsPassed, StandsBeside, thread_follows}
+use Rattle.translate_core.proofs.ThreadFollows.{StandsBeside, thread_follows}
 
 -- an image is laid out of blocks of words that the passes made of an input's code, where these slots are private
 pub record IsLaid (private : List Slot) (input image : List ℕ) (code : Code) (address : ℕ) (words : List ℕ) (blocks : List (ABlock XReg)) : Type 0 where

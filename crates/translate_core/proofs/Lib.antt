@@ -13,3 +13,5 @@ pub mod ThreadCarried
 pub mod PlanOf
 pub mod BlockStations
 pub mod EachThread
+pub mod Allowed
+pub mod Carried

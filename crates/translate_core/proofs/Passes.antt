@@ -33,7 +33,7 @@ use Rattle.fence_place.specs.Fenced.{IsSameState, KeepsPlaced}
 use Rattle.fence_place.specs.Marked.{marked}
 use Rattle.fence_merge.specs.Roles.{stations}
 use Rattle.fence_merge.specs.Follows.{FollowsPlanOf}
-use Rattle.carry_spec.specs.Plan.{stations_of}
+use Rattle.translate_core.specs.Passed.{Passes}
 use Rattle.isel.specs.Selected.{SameNumbered, MeansSteps}
 use Rattle.a64_code.specs.declared.instr.XReg.{XReg}
 use Rattle.a64_code.specs.declared.instr.A64.{A64}
@@ -132,20 +132,6 @@ start_numbered s t alike = record {
 }
 
 -- ---- the passes
-
--- What the passes say of a block's instructions and its words, where these slots are private.
-pub record Passes (private : List Slot) (ps : List Placed) (xs : List (A64 XReg)) (fin : AEnd XReg) : Type 0 where
-  pub steps : List IrStep
-  pub merged : List IrStep
-  pub end : IrEnd
-  pub words : List (A64 ℕ)
-  pub words_end : AEnd ℕ
-  pub lifts : LiftsBlock ps steps end
-  pub counts : stations private steps ≡ flat_map (stations_of (marked private)) ps
-  pub keeps : KeepsPlaced steps merged
-  pub follows : FollowsPlanOf private steps merged
-  pub selects : MeansSteps merged end words words_end
-  pub allocates : MeansNumbers words words_end xs fin
 
 -- an end after one state
 same_end : (end : IrEnd) (i : IrState) → Keeps placed 1 0 (SameNext (SameLeft IsSameState)) (ir_end end i) (ir_end end i)

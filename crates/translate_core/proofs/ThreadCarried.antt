@@ -42,10 +42,11 @@ use Rattle.code_layout.specs.Carried.{IsCarriedOut}
 use Rattle.code_layout.specs.Places.{place_from}
 use Rattle.code_layout.proofs.CallerLemmas.{HasCome, MeansBlock, threads_forward}
 use Rattle.carry_spec.specs.Plan.{IsPlan}
+use Rattle.translate_core.specs.Passed.{IsPassed}
 use Rattle.translate_core.proofs.Accounted.{IsPlanned}
 use Rattle.translate_core.proofs.CodeRealizes.{comes_to_block, code_realizes, plan_at, StandsInBlock}
 use Rattle.translate_core.proofs.Passes.{Alike, block_keeps}
-use Rattle.translate_core.proofs.ThreadFollows.{IsPassed, StandsBeside, alike_free, alike_at, first_begins, thread_follows}
+use Rattle.translate_core.proofs.ThreadFollows.{StandsBeside, alike_free, alike_at, first_begins, thread_follows}
 
 bare_trace : (xs : List Item) → trace (bare xs) ≡ trace xs
 bare_trace [] = refl

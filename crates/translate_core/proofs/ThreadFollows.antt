@@ -49,11 +49,12 @@ use Rattle.code_layout.specs.Carried.{ArrivesAt, IsCarriedOut}
 use Rattle.code_layout.specs.Places.{place_from}
 use Rattle.code_layout.proofs.CallerLemmas.{StandsFor}
 use Rattle.carry_spec.specs.Plan.{IsPlan, stations_of, block_gaps}
+use Rattle.translate_core.specs.Passed.{IsPassed}
 use Rattle.translate_core.proofs.BlockFollowed.{Followed, block_followed}
 use Rattle.translate_core.proofs.BlockWithin.{realizes_within, stretch_within}
 use Rattle.translate_core.proofs.CodeRealizes.{AreInner, StandsInBlock, block_inner, plan_at, code_realizes}
 use Rattle.translate_core.proofs.Made.{path_all, unfolds_all, a64_barriers, realized_none}
-use Rattle.translate_core.proofs.Passes.{Alike, Passes}
+use Rattle.translate_core.proofs.Passes.{Alike}
 
 -- ---- items with the fences of gaps
 
@@ -112,15 +113,6 @@ alike_free s t u same alike = record {
 
 pub alike_at : (s : Thread) (t : AState) (a : ℕ) → Alike s t → Alike (record s { at = a }) t
 alike_at s t a alike = record { same = alike.same; fit = alike.fit; cf = alike.cf; zf = alike.zf; sf = alike.sf; of = alike.of }
-
--- a block of words that the passes made of a block of the code
-pub record IsPassed (private : List Slot) (code : Code) (b : ABlock XReg) : Type 0 where
-  pub block : Block
-  pub ps : List Placed
-  pub known : StandsIn code.blocks block
-  pub are : AreOf code.placed block ps
-  pub first : block.first ≡ b.first
-  pub passes : Passes private ps b.steps b.end
 
 pub first_begins : (a : ℕ) (ps : List Placed) → BeginAt a ps → a ≡ first_of ps
 first_begins a [] begin = absurd begin

@@ -1,2 +1,4 @@
 //! The translation of a file: the image that is made of it carries it.
 #![tactic(auto)]
+
+mod block;

@@ -1,0 +1,46 @@
+-- Blocks of words that the passes made of blocks of recovered code, where some slots are private.
+use Rattle.std.specs.Prelude.{◌≡◌, ℕ, List, flat_map}
+use Rattle.ev_graph.specs.Places.{StandsIn}
+use Rattle.x64_syntax.specs.declared.placed.Placed.{Placed}
+use Rattle.x64_syntax.specs.declared.slots.Slot.{Slot}
+use Rattle.cfg_walk.specs.declared.code.Block.{Block}
+use Rattle.cfg_walk.specs.declared.code.Code.{Code}
+use Rattle.cfg_walk.specs.Blocks.{AreOf}
+use Rattle.limm_ir.specs.declared.block.IrEnd.{IrEnd}
+use Rattle.limm_ir.specs.declared.step.IrStep.{IrStep}
+use Rattle.lift.specs.Block.{LiftsBlock}
+use Rattle.fence_place.specs.Fenced.{KeepsPlaced}
+use Rattle.fence_place.specs.Marked.{marked}
+use Rattle.fence_merge.specs.Roles.{stations}
+use Rattle.fence_merge.specs.Follows.{FollowsPlanOf}
+use Rattle.isel.specs.Selected.{MeansSteps}
+use Rattle.regalloc.specs.Allocated.{MeansNumbers}
+use Rattle.a64_code.specs.declared.instr.XReg.{XReg}
+use Rattle.a64_code.specs.declared.instr.A64.{A64}
+use Rattle.a64_block.specs.declared.block.ABlock.{ABlock}
+use Rattle.a64_block.specs.declared.block.AEnd.{AEnd}
+use Rattle.carry_spec.specs.Plan.{stations_of}
+
+-- What the passes say of a block's instructions and its words: each pass keeps the meaning, the steps count for the plan what
+-- the instructions count, and the merged steps follow it.
+pub record Passes (private : List Slot) (ps : List Placed) (xs : List (A64 XReg)) (fin : AEnd XReg) : Type 0 where
+  pub steps : List IrStep
+  pub merged : List IrStep
+  pub end : IrEnd
+  pub words : List (A64 ℕ)
+  pub words_end : AEnd ℕ
+  pub lifts : LiftsBlock ps steps end
+  pub counts : stations private steps ≡ flat_map (stations_of (marked private)) ps
+  pub keeps : KeepsPlaced steps merged
+  pub follows : FollowsPlanOf private steps merged
+  pub selects : MeansSteps merged end words words_end
+  pub allocates : MeansNumbers words words_end xs fin
+
+-- a block of words that the passes made of a block of the code
+pub record IsPassed (private : List Slot) (code : Code) (b : ABlock XReg) : Type 0 where
+  pub block : Block
+  pub ps : List Placed
+  pub known : StandsIn code.blocks block
+  pub are : AreOf code.placed block ps
+  pub first : block.first ≡ b.first
+  pub passes : Passes private ps b.steps b.end
