@@ -1,11 +1,10 @@
 -- The accesses of a program's threads are allowed.
-use Rattle.std.proofs.Common.{◌≡◌, ℕ, ◌==◌, Bool, true, false, List, [], ◌∷◌, ◌++◌, Option, Some, None, refl, sym, ap, ◌∙◌, subst}
-use Rattle.std.specs.Prelude.{if◌then◌else◌}
+use Rattle.std.proofs.Common.{◌≡◌, ℕ, ◌==◌, List, [], ◌∷◌, Option, Some, None, refl, sym, subst}
 use Rattle.std.specs.List.{AllByRecursion}
 use Rattle.ev_graph.specs.declared.events.End.{End}
 use Rattle.ev_graph.specs.declared.events.Item.{Item}
 use Rattle.ev_graph.specs.declared.events.Item.TheVariants as items
-use Rattle.behavior.specs.Tree.{Tree, Gives, Point, Path, cut, gives, begins, Next, Goes, Stops, ◌then◌}
+use Rattle.behavior.specs.Tree.{Tree, Point, Path, cut, begins, Next}
 use Rattle.behavior.specs.Acts.{Permission}
 use Rattle.behavior.specs.Run.{Run, cuts, stops, goes_on}
 use Rattle.behavior.proofs.Lists.{all_append}

@@ -15,3 +15,4 @@ pub mod BlockStations
 pub mod EachThread
 pub mod Allowed
 pub mod Carried
+pub mod PassedBlocks

@@ -1,6 +1,6 @@
 -- The passes one behind the other: a block of instructions and its words over registers leave alike.
 use Rattle.std.proofs.Common.{◌≡◌, inl, inr, ℕ, zero, suc, ◌+◌, ◌^◌, ◌<◌, ◌==◌, Bool, true, false, List, [], ◌∷◌, refl, sym, ap, ◌∙◌, subst, arith}
-use Rattle.std.specs.Prelude.{if◌then◌else◌, nat_lt, flat_map}
+use Rattle.std.specs.Prelude.{if◌then◌else◌, nat_lt}
 use Rattle.std.proofs.lemmas.Bool.{cases_order}
 use Rattle.std.proofs.lemmas.Bool.Decides.{nat_tests}
 use Rattle.word_arith.specs.Bits.{bit}
@@ -28,20 +28,16 @@ use Rattle.limm_ir.specs.declared.block.IrEnd.{IrEnd}
 use Rattle.limm_ir.specs.declared.block.IrEnd.TheVariants as ends
 use Rattle.limm_ir.specs.declared.step.IrStep.{IrStep}
 use Rattle.lift_alu.specs.Meant.{SameThread}
-use Rattle.lift.specs.Block.{first_of, LiftsBlock}
+use Rattle.lift.specs.Block.{first_of}
 use Rattle.fence_place.specs.Fenced.{IsSameState, KeepsPlaced}
-use Rattle.fence_place.specs.Marked.{marked}
-use Rattle.fence_merge.specs.Roles.{stations}
-use Rattle.fence_merge.specs.Follows.{FollowsPlanOf}
 use Rattle.translate_core.specs.Passed.{Passes}
-use Rattle.isel.specs.Selected.{SameNumbered, MeansSteps}
+use Rattle.isel.specs.Selected.{SameNumbered}
 use Rattle.a64_code.specs.declared.instr.XReg.{XReg}
 use Rattle.a64_code.specs.declared.instr.A64.{A64}
 use Rattle.a64_table.specs.State.{xregs, AState}
 use Rattle.a64_block.specs.Registers.{home}
 use Rattle.a64_block.specs.Blocks.{a64_block, SameNamed}
 use Rattle.a64_block.specs.declared.block.AEnd.{AEnd}
-use Rattle.regalloc.specs.Allocated.{MeansNumbers}
 
 -- ---- states that are the same in all forms
 

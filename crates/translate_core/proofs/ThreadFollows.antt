@@ -23,9 +23,8 @@ use Rattle.x64_table.specs.State.{Thread}
 use Rattle.x64_table.specs.Blocks.{x64_block}
 use Rattle.elf_read.specs.Elf.{IsSegment}
 use Rattle.code_at.specs.Code.{Program}
-use Rattle.cfg_walk.specs.declared.code.Block.{Block}
 use Rattle.cfg_walk.specs.declared.code.Code.{Code}
-use Rattle.cfg_walk.specs.Blocks.{BeginAt, AreOf}
+use Rattle.cfg_walk.specs.Blocks.{BeginAt}
 use Rattle.cfg_walk.specs.Code.{IsCodeOf}
 use Rattle.cfg_walk.specs.Machine.{exits_of, thread_step}
 use Rattle.cfg_walk.specs.Running.{at_arrival, whole_step}

@@ -1,5 +1,6 @@
 -- Blocks of words that the passes made of blocks of recovered code, where some slots are private.
-use Rattle.std.specs.Prelude.{◌≡◌, ℕ, List, flat_map}
+use Rattle.std.specs.Prelude.{◌≡◌, ℕ, List, flat_map, map}
+use Rattle.std.specs.List.{AllByRecursion}
 use Rattle.ev_graph.specs.Places.{StandsIn}
 use Rattle.x64_syntax.specs.declared.placed.Placed.{Placed}
 use Rattle.x64_syntax.specs.declared.slots.Slot.{Slot}
@@ -17,8 +18,10 @@ use Rattle.isel.specs.Selected.{MeansSteps}
 use Rattle.regalloc.specs.Allocated.{MeansNumbers}
 use Rattle.a64_code.specs.declared.instr.XReg.{XReg}
 use Rattle.a64_code.specs.declared.instr.A64.{A64}
+use Rattle.a64_block.specs.Conditions.{IsLayable}
 use Rattle.a64_block.specs.declared.block.ABlock.{ABlock}
 use Rattle.a64_block.specs.declared.block.AEnd.{AEnd}
+use Rattle.code_layout.specs.Places.{firsts}
 use Rattle.carry_spec.specs.Plan.{stations_of}
 
 -- What the passes say of a block's instructions and its words: each pass keeps the meaning, the steps count for the plan what
@@ -44,3 +47,9 @@ pub record IsPassed (private : List Slot) (code : Code) (b : ABlock XReg) : Type
   pub are : AreOf code.placed block ps
   pub first : block.first ≡ b.first
   pub passes : Passes private ps b.steps b.end
+
+-- Blocks of words that can be laid out, one for each of these blocks, which the passes made of blocks of the code.
+pub record ArePassed (private : List Slot) (code : Code) (of : List Block) (blocks : List (ABlock XReg)) : Type 0 where
+  pub begin : firsts blocks ≡ map (λ (b : Block). b.first) of
+  pub passed : AllByRecursion (IsPassed private code) blocks
+  pub layable : AllByRecursion (λ (b : ABlock XReg). IsLayable b.steps b.end) blocks

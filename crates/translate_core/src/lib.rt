@@ -2,3 +2,5 @@
 #![tactic(auto)]
 
 mod block;
+
+pub use block::pass_blocks;

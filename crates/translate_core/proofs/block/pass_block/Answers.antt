@@ -1,4 +1,4 @@
-use Rattle.std.proofs.Common.{◌≡◌, sym, ◌∙◌, subst}
+use Rattle.std.proofs.Common.{sym, ◌∙◌, subst}
 use Rattle.lift.proofs.CallerLemmas.{instructions}
 use Rattle.isel.specs.Selected.{MeansSteps}
 use Rattle.translate_core.proofs.BlockStations.{steps_count}
