@@ -16,3 +16,4 @@ pub mod EachThread
 pub mod Allowed
 pub mod Carried
 pub mod PassedBlocks
+pub mod Ended

@@ -10,20 +10,20 @@ use Rattle.lift.specs.Recovered.{IsBlockAt}
 use Rattle.a64_code.specs.declared.instr.XReg.{XReg}
 use Rattle.a64_block.specs.Conditions.{IsLayable}
 use Rattle.a64_block.specs.declared.block.ABlock.{ABlock}
-use Rattle.translate_core.specs.Passed.{IsPassed, ArePassed}
+use Rattle.translate_core.specs.Passed.{IsPassed, ArePassed, LeadsOn}
 
 abbrev IsLayableBlock : ABlock XReg → Type 0
 IsLayableBlock b = IsLayable b.steps b.end
 
 -- before the first of them there is none
 pub none_passed : (private : List Slot) (code : Code) (of : List Block) (blocks : List (ABlock XReg)) → blocks ≡ [] → ArePassed private code (take 0 of) blocks
-none_passed private code of blocks none = subst (ArePassed private code (take 0 of)) (sym none) (record { begin = refl; passed = tt; layable = tt })
+none_passed private code of blocks none = subst (ArePassed private code (take 0 of)) (sym none) (record { begin = refl; passed = tt; layable = tt; leads = tt })
 
 -- one more
 pub passed_more : (private : List Slot) (code : Code) (k : ℕ) (blocks all : List (ABlock XReg)) (b : ABlock XReg) → k < length code.blocks → all ≡ blocks ++ b ∷ []
-    → ((one : Block) → IsBlockAt code k one → b.first ≡ one.first) → IsPassed private code b → IsLayableBlock b → ArePassed private code (take k code.blocks) blocks
+    → ((one : Block) → IsBlockAt code k one → b.first ≡ one.first) → IsPassed private code b → IsLayableBlock b → LeadsOn code b.end → ArePassed private code (take k code.blocks) blocks
     → ArePassed private code (take (k + 1) code.blocks) all
-passed_more private code k blocks all b within same begins passed layable are =
+passed_more private code k blocks all b within same begins passed layable leads are =
     let none : Block = record { first = 0; count = 0 } in
     let one = get_or code.blocks k none in
     let level : b.first ≡ one.first = begins one (slice_get-get_or code.blocks k none within) in
@@ -35,6 +35,7 @@ passed_more private code k blocks all b within same begins passed layable are =
           ∙ ap (map (λ (b : Block). b.first)) (sym (take_more code.blocks k none within));
       passed = all_append (IsPassed private code) blocks (b ∷ []) are.passed (passed, tt);
       layable = all_append IsLayableBlock blocks (b ∷ []) are.layable (layable, tt);
+      leads = all_append (λ (b : ABlock XReg). LeadsOn code b.end) blocks (b ∷ []) are.leads (leads, tt);
     })
 
 -- all of them

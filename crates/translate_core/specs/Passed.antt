@@ -1,12 +1,14 @@
 -- Blocks of words that the passes made of blocks of recovered code, where some slots are private.
-use Rattle.std.specs.Prelude.{◌≡◌, ℕ, List, flat_map, map}
+use Rattle.std.specs.Prelude.{◌≡◌, ◌≢◌, ℕ, List, flat_map, map}
 use Rattle.std.specs.List.{AllByRecursion}
 use Rattle.ev_graph.specs.Places.{StandsIn}
+use Rattle.ev_graph.specs.declared.events.TrapKind.TheVariants.{BadAccess}
 use Rattle.x64_syntax.specs.declared.placed.Placed.{Placed}
 use Rattle.x64_syntax.specs.declared.slots.Slot.{Slot}
 use Rattle.cfg_walk.specs.declared.code.Block.{Block}
 use Rattle.cfg_walk.specs.declared.code.Code.{Code}
 use Rattle.cfg_walk.specs.Blocks.{AreOf}
+use Rattle.cfg_walk.specs.Running.{IsBegun}
 use Rattle.limm_ir.specs.declared.block.IrEnd.{IrEnd}
 use Rattle.limm_ir.specs.declared.step.IrStep.{IrStep}
 use Rattle.lift.specs.Block.{LiftsBlock}
@@ -21,6 +23,7 @@ use Rattle.a64_code.specs.declared.instr.A64.{A64}
 use Rattle.a64_block.specs.Conditions.{IsLayable}
 use Rattle.a64_block.specs.declared.block.ABlock.{ABlock}
 use Rattle.a64_block.specs.declared.block.AEnd.{AEnd}
+use Rattle.a64_block.specs.declared.block.AEnd.TheVariants as ends
 use Rattle.code_layout.specs.Places.{firsts}
 use Rattle.carry_spec.specs.Plan.{stations_of}
 
@@ -48,8 +51,18 @@ pub record IsPassed (private : List Slot) (code : Code) (b : ABlock XReg) : Type
   pub first : block.first ≡ b.first
   pub passes : Passes private ps b.steps b.end
 
+-- Where a block leads to that ends so, blocks of the code begin. None leads to a table's entries, and none ends by the trap of an
+-- access.
+abbrev pub LeadsOn : {R : Type 0} → Code → AEnd R → Type 0
+LeadsOn code (ends.Goto a) = IsBegun code a
+LeadsOn code (ends.Branch r a b) = IsBegun code a × IsBegun code b
+LeadsOn code (ends.Return r) = Unit {0}
+LeadsOn code (ends.Indexed r table) = ⊥
+LeadsOn code (ends.Stop kind) = kind ≢ BadAccess
+
 -- Blocks of words that can be laid out, one for each of these blocks, which the passes made of blocks of the code.
 pub record ArePassed (private : List Slot) (code : Code) (of : List Block) (blocks : List (ABlock XReg)) : Type 0 where
   pub begin : firsts blocks ≡ map (λ (b : Block). b.first) of
   pub passed : AllByRecursion (IsPassed private code) blocks
   pub layable : AllByRecursion (λ (b : ABlock XReg). IsLayable b.steps b.end) blocks
+  pub leads : AllByRecursion (λ (b : ABlock XReg). LeadsOn code b.end) blocks

@@ -5,7 +5,7 @@ ghost use Rattle.lift_alu.specs.Meant.{most_words};
 ghost use Rattle.lift.specs.Recovered.{IsRecovered, IsBlockAt, AreOfBlock};
 ghost use Rattle.fence_place.specs.Marked.{IsSorted};
 ghost use Rattle.a64_block.specs.Conditions.{IsLayable};
-ghost use Rattle.translate_core.specs.Passed.{IsPassed, ArePassed};
+ghost use Rattle.translate_core.specs.Passed.{IsPassed, ArePassed, LeadsOn};
 
 use a64_block::ABlock;
 use a64_code::XReg;
@@ -34,6 +34,7 @@ fn pass_block(
     ensures first { IfOk result (λ b. (one : AnyBlock) → IsBlockAt code.now number one → b.first ≡ one.first) }
     ensures passed { IfOk result (IsPassed private.now.slots code.now) }
     ensures layable { IfOk result (λ b. IsLayable b.steps b.end) }
+    ensures leads { IfOk result (λ b. LeadsOn code.now b.end) }
     ensures few { IfOk result (λ b. (ps : Sequence AnyPlaced) → AreOfBlock code.now number ps → length b.steps ≤ sum_by most_words ps) }
 {
     let lifted = lift_block(alloc, code, number)?;

@@ -1,6 +1,10 @@
-use Rattle.std.proofs.Common.{sym, ◌∙◌, subst}
-use Rattle.lift.proofs.CallerLemmas.{instructions}
+use Rattle.std.proofs.Common.{sym, ap, ◌∙◌, subst}
+use Rattle.cfg_walk.proofs.Instructions.{block_stretch}
+use Rattle.lift.proofs.CallerLemmas.{instructions, are_lifted}
+use Rattle.isel.specs.Groups.{selected_end}
 use Rattle.isel.specs.Selected.{MeansSteps}
+use Rattle.translate_core.specs.Passed.{LeadsOn}
+use Rattle.translate_core.proofs.Ended.{leads_renamed, leads_from}
 use Rattle.translate_core.proofs.BlockStations.{steps_count}
 use Rattle.translate_core.proofs.block.pass_block.Goals as goal
 
@@ -34,3 +38,15 @@ returns-clause-passed c =
         allocates = words.ensures.meaning;
       };
     }
+
+pub returns-clause-leads : goal.returns-clause-leads
+returns-clause-leads c =
+    let code = c.args.code.now in
+    let recovered = c.requires.code in
+    let (ps, are) = instructions code c.args.number recovered c.requires.number in
+    let stretch = block_stretch recovered.program code recovered.is_code are.block ps (c.args.number, are.here) are.are in
+    let lifted = (are_lifted code c.args.number recovered ps are).each in
+    let end = c.in_ok-selected.ensures.end ∙ ap selected_end (c.in_ok-merged.ensures.end ∙ c.in_ok-fenced.ensures.end ∙ c.in_ok-lifted.ensures.end ps are) in
+    let (g, renamed) = c.in_ok-words.ensures.end in
+    subst (LeadsOn code) (sym renamed)
+    (leads_renamed code g c.in_ok-selected.selected.end (subst (LeadsOn code) (sym end) (leads_from recovered.program code recovered.is_code recovered.is_program.segments 0 ps stretch lifted)))

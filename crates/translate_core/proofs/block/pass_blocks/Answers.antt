@@ -9,7 +9,7 @@ pub loop-number-preserved : goal.loop-number-preserved
 loop-number-preserved c =
     let below : c.loop-number.number < length c.args.code.now.blocks = omega arith in
     passed_more c.args.private.now.slots c.args.code.now c.loop-number.number c.loop-number.blocks.items c.push.new.self.items c.in_ok-block.block below
-    c.in_ok-push.ensures.items c.in_ok-block.ensures.first c.in_ok-block.ensures.passed c.in_ok-block.ensures.layable c.loop-number.invariant
+    c.in_ok-push.ensures.items c.in_ok-block.ensures.first c.in_ok-block.ensures.passed c.in_ok-block.ensures.layable c.in_ok-block.ensures.leads c.loop-number.invariant
 
 pub returns : goal.returns
 returns c =
