@@ -124,8 +124,7 @@ module _ (program : Program) (code : Code) (is : IsCodeOf program code) where
     pub comes_to_block : (t : Thread) → IsBegun code t.at → (next : List Station) × (plan t.at ≡ Some (gaps next)) × StandsInBlock t next
     comes_to_block t begun =
         let b = begun.0 in
-        let list = have_instructions program code is b begun.1 in
-        (
+        let list = have_instructions program code is b begun.1 in (
           flat_map (stations_of private) list.ps,
           ap plan (sym begun.2) ∙ is_plan.block b list.ps begun.1 list.are,
           record {

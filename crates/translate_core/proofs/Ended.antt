@@ -1,5 +1,5 @@
 -- Blocks of words lead to where blocks begin.
-use Rattle.std.proofs.Common.{◌≡◌, ◌≢◌, ◌⊎◌, inl, inr, ℕ, zero, suc, ◌+◌, ◌%◌, ◌^◌, ◌≤◌, ◌<◌, Bool, true, false, List, [], ◌∷◌, slice_get, Some, refl, sym, ap, ◌∙◌, subst, arith}
+use Rattle.std.proofs.Common.{◌≡◌, ◌≢◌, ℕ, ◌+◌, true, List, [], ◌∷◌, refl, sym, subst, arith}
 use Rattle.std.specs.List.{AllByRecursion}
 use Rattle.std.proofs.Math.Nat.{mod-eq_of_lt}
 use Rattle.ev_graph.specs.Places.{StandsIn}
@@ -14,8 +14,7 @@ use Rattle.elf_read.specs.Elf.{IsSegment}
 use Rattle.code_at.specs.Code.{Program, target_from}
 use Rattle.code_at.proofs.CallerLemmas.{ends_low}
 use Rattle.cfg_walk.specs.declared.code.Code.{Code}
-use Rattle.cfg_walk.specs.Reach.{IsPlaced, end_of, after, successors}
-use Rattle.cfg_walk.specs.Blocks.{IsLeader, ends_block}
+use Rattle.cfg_walk.specs.Reach.{end_of, after}
 use Rattle.cfg_walk.specs.Code.{IsCodeOf}
 use Rattle.cfg_walk.specs.Running.{IsBegun}
 use Rattle.cfg_walk.proofs.BlockRuns.{last_leads}

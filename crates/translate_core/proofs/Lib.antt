@@ -17,3 +17,5 @@ pub mod Allowed
 pub mod Carried
 pub mod PassedBlocks
 pub mod Ended
+pub mod Closed
+pub mod Imaged

@@ -106,9 +106,15 @@ module _ {S : Type 0} (private : Slot → Bool) (plan : S → Option (List Gap))
   row_realizes {may} {place} (call-out address size value given exit) =
       subst (λ ss. Makes ss (writes may place address size value (puts_out place given (goes exit)) then f)) (sym (one_more (kind_station private place Write)))
       (makes_write (may true address size) place address size value after (puts_out place given (goes exit)) (λ v lt. (after, output, later exit)))
-  row_realizes {may} {place} (jump-in address size exit) = λ v lt.
-      ((kind_station private place Read ++ []) ++ after, input, subst (λ ss. Makes ss (reads may place address size (λ w. goes (exit v w)) then f)) (sym (one_more (kind_station private place Read)))
-      (makes_read (may false address size) place address size after (λ w. goes (exit v w)) (λ w. later (exit v w))))
-  row_realizes {may} {place} (jump-out address size given exit) = λ v lt.
-      ((kind_station private place Read ++ []) ++ after, output, subst (λ ss. Makes ss (reads may place address size (λ w. goes (exit w)) then f)) (sym (one_more (kind_station private place Read)))
-      (makes_read (may false address size) place address size after (λ w. goes (exit w)) (λ w. later (exit w))))
+  row_realizes {may} {place} (jump-in address size exit) = λ v lt. (
+    (kind_station private place Read ++ []) ++ after,
+    input,
+    subst (λ ss. Makes ss (reads may place address size (λ w. goes (exit v w)) then f)) (sym (one_more (kind_station private place Read)))
+        (makes_read (may false address size) place address size after (λ w. goes (exit v w)) (λ w. later (exit v w))),
+  )
+  row_realizes {may} {place} (jump-out address size given exit) = λ v lt. (
+    (kind_station private place Read ++ []) ++ after,
+    output,
+    subst (λ ss. Makes ss (reads may place address size (λ w. goes (exit w)) then f)) (sym (one_more (kind_station private place Read)))
+        (makes_read (may false address size) place address size after (λ w. goes (exit w)) (λ w. later (exit w))),
+  )

@@ -49,14 +49,20 @@ fn pass_block(
 fn count_of(code: &Code) -> Result<u32, NoMemory>
     ensures { IfOk result (λ count. count ≡ length code.now.blocks) }
 {
-    u32::try_from(code.blocks.as_slice().len()).ok().ok_or(NoMemory)
+    u32::try_from(code.blocks.as_slice().len())
+        .ok()
+        .ok_or(NoMemory)
 }
 
 /// The words of the blocks of recovered code, one block for each, with just the planned fences. The marked
 /// slots are private.
 ///
 /// Takes n log n time in the instructions of the code.
-pub fn pass_blocks(alloc: Global, code: &Code, private: &Marks) -> Result<List<ABlock<XReg>>, NoMemory>
+pub fn pass_blocks(
+    alloc: Global,
+    code: &Code,
+    private: &Marks,
+) -> Result<List<ABlock<XReg>>, NoMemory>
     requires code { IsRecovered code.now }
     requires private { IsSorted private.now.slots }
     ensures { IfOk result (ArePassed private.now.slots code.now code.now.blocks) }

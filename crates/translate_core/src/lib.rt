@@ -4,3 +4,6 @@
 mod block;
 
 pub use block::pass_blocks;
+
+#[cfg(test)]
+mod tests;
