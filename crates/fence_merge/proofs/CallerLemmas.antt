@@ -4,14 +4,9 @@
 pub use Rattle.fence_merge.proofs.Planned.{placed_gaps}
 -- a block follows the plan where its steps do
 pub use Rattle.fence_merge.proofs.Ended.{block_follows}
--- items with the fences of gaps, one part behind the other
-pub use Rattle.fence_merge.proofs.Dressed.{left_gaps, dressed-append}
 -- runs with the same accesses in the same places are seen alike with the fences of gaps
 pub use Rattle.fence_merge.proofs.Dressed.{IsNoBarrier, same_privacy, same_dressed}
 -- where all fences are barriers of Arm, they are seen as they are
 pub use Rattle.fence_merge.proofs.Dressed.{IsBarrier, view-lowered}
--- the tree that gives the fences of gaps has the paths of the tree, with these fences
-pub use Rattle.fence_merge.proofs.Views.{IsFirst, IsSecond, IsTurn, one, pair}
-pub use Rattle.fence_merge.proofs.Dressed.{IsCalm, MakesSlots, slots_start, stop_with, given_path}
 -- what gaps give is seen, and is fences
 pub use Rattle.fence_merge.proofs.Barriers.{view-given, given_fences}

@@ -1,8 +1,7 @@
 -- A run with planned fences is, without them, a run of the machine.
-use Rattle.std.proofs.Common.{◌≡◌, ◌⊎◌, inl, inr, ℕ, ◌+◌, ◌<◌, Bool, true, false, List, [], ◌∷◌, ◌++◌, Option, Some, None, refl, sym, ap, ◌∙◌, subst}
+use Rattle.std.proofs.Common.{◌≡◌, inl, inr, ℕ, ◌+◌, Bool, true, false, List, [], ◌∷◌, ◌++◌, Option, Some, refl, sym, ap, ◌∙◌, subst}
 use Rattle.std.specs.Prelude.{if◌then◌else◌, map}
 use Rattle.std.proofs.lemmas.List.{append_assoc}
-use Rattle.ev_graph.specs.declared.events.Access.{Access}
 use Rattle.ev_graph.specs.declared.events.End.{End}
 use Rattle.ev_graph.specs.declared.events.FenceItem.{FenceItem}
 use Rattle.ev_graph.specs.declared.events.FenceKind.{FenceKind}
@@ -15,7 +14,7 @@ use Rattle.x64_syntax.specs.declared.slots.Slot.{Slot}
 use Rattle.fence_plan.specs.declared.gap.Gap.{Gap}
 use Rattle.fence_plan.specs.Private.{has_shared}
 use Rattle.fence_plan.specs.Gaps.{Station, gaps, fence_if}
-use Rattle.fence_plan.specs.Planned.{barrier_item, given, first_given, later_gaps, is_barrier, Planning, with_gaps, planned_from, planned_step}
+use Rattle.fence_plan.specs.Planned.{barrier_item, first_given, later_gaps, is_barrier, Planning, with_gaps, planned_from, planned_step}
 use Rattle.fence_plan.specs.Realized.{IsAct, silent, input, output, hidden, shared, read, pair, strong, StandsOn, Realizes, RealizesPlan}
 
 -- items without barriers of Arm

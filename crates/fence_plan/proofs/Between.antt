@@ -1,5 +1,5 @@
 -- Of guarded items: the fences between any two accesses that are not private.
-use Rattle.std.proofs.Common.{◌≡◌, ◌⊎◌, inl, inr, ℕ, zero, suc, ◌+◌, ◌<◌, ◌≤◌, Bool, true, false, List, [], ◌∷◌, Some, None, refl, sym, ap, ◌∙◌, subst, arith}
+use Rattle.std.proofs.Common.{◌≡◌, ◌⊎◌, inl, inr, ℕ, zero, suc, ◌<◌, Bool, true, false, List, [], ◌∷◌, Some, refl, sym, ap, subst, arith}
 use Rattle.std.specs.Prelude.{slice_get}
 use Rattle.ev_graph.specs.declared.events.Access.{Access}
 use Rattle.ev_graph.specs.declared.events.AccessKind.{AccessKind}
@@ -12,8 +12,8 @@ use Rattle.ev_graph.specs.declared.events.Item.TheVariants as items
 use Rattle.ev_graph.specs.declared.events.Transfer.{Transfer}
 use Rattle.ev_graph.specs.Events.{accesses_before, FenceBetween}
 use Rattle.fence_plan.specs.Guards.{Open, behind_fence, behind_access, MayCome, OfAccess, Guards}
-use Rattle.fence_plan.proofs.Mapped.{Found, AllOpen, IsFull, both, none_there, some_same, full_before_mfence}
-use Rattle.fence_plan.proofs.Mapping.{HalfOpen, IsSilent, behind_half, Mapping, IsNextPair, first_full, first_mapped}
+use Rattle.fence_plan.proofs.Mapped.{Found, IsFull, none_there, full_before_mfence}
+use Rattle.fence_plan.proofs.Mapping.{IsSilent, behind_half, Mapping, IsNextPair, first_full, first_mapped}
 
 same_item : {a b : Access} → Some (items.Access a) ≡ Some (items.Access b) → a ≡ b
 same_item e = cc

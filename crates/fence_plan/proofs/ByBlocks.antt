@@ -1,17 +1,16 @@
 -- Two machines whose blocks match in pairs: where each block of the target follows the plan of its block of the source, so do
 -- its runs.
-use Rattle.std.proofs.Common.{◌≡◌, ◌⊎◌, inl, inr, ℕ, zero, suc, ◌+◌, ◌<◌, Bool, true, false, List, [], ◌∷◌, ◌++◌, length, Option, Some, None, refl, sym, ap, ◌∙◌, subst, arith}
+use Rattle.std.proofs.Common.{◌≡◌, ℕ, zero, suc, ◌+◌, ◌<◌, Bool, true, false, List, [], ◌∷◌, ◌++◌, length, Option, Some, None, refl, sym, ap, ◌∙◌, subst, arith}
 use Rattle.std.specs.Prelude.{map, if◌then◌else◌}
 use Rattle.std.specs.List.{AllByRecursion}
 use Rattle.std.proofs.lemmas.List.{append-nil, append_assoc}
-use Rattle.ev_graph.specs.declared.events.Access.{Access}
 use Rattle.ev_graph.specs.declared.events.End.{End}
 use Rattle.ev_graph.specs.declared.events.End.TheVariants.{Running}
 use Rattle.ev_graph.specs.declared.events.FenceKind.TheVariants.{Frm, Fww, Fsc}
 use Rattle.ev_graph.specs.declared.events.Item.{Item}
 use Rattle.ev_graph.specs.declared.events.Item.TheVariants as items
 use Rattle.ev_graph.specs.Events.{accesses}
-use Rattle.behavior.specs.Tree.{Tree, Gives, Begins, Acts, Point, Cut, At, Path, cut, gives, begins, acts, Next, Goes, Stops}
+use Rattle.behavior.specs.Tree.{Tree, Gives, Begins, Acts, Point, Cut, At, Path, acts, Next, Goes, Stops}
 use Rattle.behavior.specs.Run.{Run}
 use Rattle.behavior.specs.Seen.{trace}
 use Rattle.behavior.specs.Unfolds.{Unfolds, block-ends, block-goes, block-begins, block-acts}
@@ -22,7 +21,7 @@ use Rattle.x64_syntax.specs.declared.slots.Slot.{Slot}
 use Rattle.fence_plan.specs.declared.gap.Gap.{Gap}
 use Rattle.fence_plan.specs.Private.{is_private, has_shared, privacy}
 use Rattle.fence_plan.specs.Gaps.{fence_if}
-use Rattle.fence_plan.specs.Planned.{barrier_item, given, first_given, later_gaps, is_barrier, Planning, with_gaps, planned_from, planned_step, before_blocks, shared_view, with_barrier, IsFence, Follows, FollowsPlan}
+use Rattle.fence_plan.specs.Planned.{barrier_item, first_given, later_gaps, is_barrier, Planning, with_gaps, planned_from, planned_step, shared_view, with_barrier, IsFence, Follows, FollowsPlan}
 
 -- ---- steps as one, within a block
 

@@ -13,5 +13,5 @@ pub use Rattle.fence_plan.proofs.Bare.{bare, run_bare}
 pub use Rattle.fence_plan.proofs.Followed.{turn_is, IsPlannedFor, followed_mapping, followed_full}
 -- runs follow the plan where blocks do
 pub use Rattle.fence_plan.proofs.ByBlocks.{UnfoldsWithin, within-ends, within-goes, within-begins, within-acts, StopsAlike, MayMiss, FollowsBlock, BlocksFollow, blocks_follow}
--- a path with planned fences, and what is seen of it
-pub use Rattle.fence_plan.proofs.Dressing.{at_left, path_dressed, NoBarrier, view_placed, privacy_placed}
+-- a path with planned fences
+pub use Rattle.fence_plan.proofs.Dressing.{at_left, path_dressed}

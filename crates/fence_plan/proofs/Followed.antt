@@ -1,24 +1,23 @@
 -- A thread's run that follows the plan, and the run of the source that explains it: the fences of the mapping stand in the one,
 -- and a full barrier where the other has an MFENCE.
-use Rattle.std.proofs.Common.{◌≡◌, ◌⊎◌, inl, inr, ℕ, zero, suc, ◌+◌, ◌<◌, ◌≤◌, Bool, true, false, not, ◌&&◌, List, [], ◌∷◌, ◌++◌, length, Option, Some, None, refl, sym, ap, ◌∙◌, subst, arith}
+use Rattle.std.proofs.Common.{◌≡◌, ◌⊎◌, inl, inr, ℕ, zero, suc, ◌<◌, Bool, true, false, List, [], ◌∷◌, ◌++◌, length, Option, Some, None, refl, sym, ap, ◌∙◌, subst, arith}
 use Rattle.std.specs.Prelude.{slice_get, map, if◌then◌else◌}
 use Rattle.std.specs.Option.{option_map}
 use Rattle.std.proofs.lemmas.Option.{slice_get-map, slice_get_within}
 use Rattle.ev_graph.specs.declared.events.Access.{Access}
-use Rattle.ev_graph.specs.declared.events.AccessKind.TheVariants.{Read, Write}
 use Rattle.ev_graph.specs.declared.events.FenceItem.{FenceItem}
 use Rattle.ev_graph.specs.declared.events.FenceKind.{FenceKind}
 use Rattle.ev_graph.specs.declared.events.FenceKind.TheVariants.{Mfence, DmbLd, DmbSt, DmbFull}
 use Rattle.ev_graph.specs.declared.events.Item.{Item}
 use Rattle.ev_graph.specs.declared.events.Item.TheVariants as items
 use Rattle.ev_graph.specs.Events.{accesses, accesses_before, FenceBetween}
-use Rattle.ev_graph.proofs.Numbers.{number, place, place_order}
+use Rattle.ev_graph.proofs.Numbers.{place, place_order}
 use Rattle.behavior.specs.Seen.{trace}
 use Rattle.x64_syntax.specs.declared.slots.Slot.{Slot}
 use Rattle.fence_plan.specs.Private.{is_private, privacy}
-use Rattle.fence_plan.specs.Planned.{is_barrier, shared_view, Follows}
-use Rattle.fence_plan.specs.Guards.{Open, open_at_start, Guards}
-use Rattle.fence_plan.proofs.Mapped.{both, none_there, some_same}
+use Rattle.fence_plan.specs.Planned.{is_barrier, Follows}
+use Rattle.fence_plan.specs.Guards.{open_at_start, Guards}
+use Rattle.fence_plan.proofs.Mapped.{none_there, some_same}
 use Rattle.fence_plan.proofs.Mapping.{Mapping, IsNextPair}
 use Rattle.fence_plan.proofs.Between.{mapped, full_at_mfence}
 use Rattle.fence_plan.proofs.Views.{is_hidden, same_between}

@@ -1,5 +1,5 @@
 -- In items that are guarded the fences stand that the mapping from x86 asks for.
-use Rattle.std.proofs.Common.{◌≡◌, ◌≢◌, ◌⊎◌, inl, inr, ℕ, zero, suc, ◌+◌, ◌<◌, ◌≤◌, Bool, true, false, List, [], ◌∷◌, Some, None, refl, sym, ap, ◌∙◌, subst, arith}
+use Rattle.std.proofs.Common.{◌≡◌, ◌⊎◌, inl, inr, ℕ, zero, suc, ◌≤◌, Bool, true, false, List, [], ◌∷◌, Some, None, refl, sym, ◌∙◌, subst, arith}
 use Rattle.std.specs.Prelude.{slice_get}
 use Rattle.ev_graph.specs.declared.events.Access.{Access}
 use Rattle.ev_graph.specs.declared.events.AccessKind.{AccessKind}
@@ -9,7 +9,7 @@ use Rattle.ev_graph.specs.declared.events.FenceKind.{FenceKind}
 use Rattle.ev_graph.specs.declared.events.FenceKind.TheVariants.{Frm, Fww, Fsc, Mfence, DmbLd, DmbSt, DmbFull}
 use Rattle.ev_graph.specs.declared.events.Item.{Item}
 use Rattle.ev_graph.specs.declared.events.Item.TheVariants as items
-use Rattle.ev_graph.specs.Events.{accesses_before, FenceBetween}
+use Rattle.ev_graph.specs.Events.{accesses_before}
 use Rattle.fence_plan.specs.Guards.{Open, behind_fence, behind_access, MayCome, HasBarrier, OfAccess, Guards}
 
 pub none_there : {A : Type 0} {x : A} → None ≡ Some x → ⊥

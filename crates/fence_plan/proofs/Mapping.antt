@@ -1,17 +1,16 @@
 -- Between two accesses of guarded items stand the fences of the mapping, and a full barrier where an MFENCE stands.
-use Rattle.std.proofs.Common.{◌≡◌, ◌⊎◌, inl, inr, ℕ, zero, suc, ◌+◌, ◌<◌, ◌≤◌, Bool, true, false, List, [], ◌∷◌, Some, None, refl, sym, ap, ◌∙◌, subst, arith}
+use Rattle.std.proofs.Common.{◌≡◌, ◌⊎◌, inl, inr, ℕ, zero, suc, Bool, true, false, List, [], ◌∷◌, Some, refl, sym, ap, ◌∙◌, subst, arith}
 use Rattle.std.specs.Prelude.{slice_get}
 use Rattle.ev_graph.specs.declared.events.Access.{Access}
 use Rattle.ev_graph.specs.declared.events.AccessKind.{AccessKind}
 use Rattle.ev_graph.specs.declared.events.AccessKind.TheVariants.{Read, Write}
-use Rattle.ev_graph.specs.declared.events.FenceItem.{FenceItem}
 use Rattle.ev_graph.specs.declared.events.FenceKind.{FenceKind}
 use Rattle.ev_graph.specs.declared.events.FenceKind.TheVariants.{Frm, Fww, Fsc, Mfence, DmbLd, DmbSt, DmbFull}
 use Rattle.ev_graph.specs.declared.events.Item.{Item}
 use Rattle.ev_graph.specs.declared.events.Item.TheVariants as items
 use Rattle.ev_graph.specs.Events.{accesses_before, FenceBetween}
 use Rattle.fence_plan.specs.Guards.{Open, behind_fence, behind_access, MayCome, HasBarrier, OfAccess, Guards}
-use Rattle.fence_plan.proofs.Mapped.{Found, AllOpen, ReadsOpen, LockedOpen, WritesOpen, IsFull, ClosesReads, ClosesWrites, both, none_there, some_same, locked_at_fence, full_before_locked, full_before_mfence, load_before_any, full_before_any, store_before_write}
+use Rattle.fence_plan.proofs.Mapped.{Found, LockedOpen, IsFull, ClosesReads, ClosesWrites, both, none_there, some_same, locked_at_fence, full_before_locked, load_before_any, full_before_any, store_before_write}
 
 -- ---- behind a locked read whose write may follow
 

@@ -1,5 +1,5 @@
 -- Barriers between accesses that are not private are the same in two runs of which one follows the other.
-use Rattle.std.proofs.Common.{◌≡◌, ◌⊎◌, inl, inr, ℕ, zero, suc, ◌+◌, ◌<◌, ◌≤◌, Bool, true, false, List, [], ◌∷◌, ◌++◌, length, take, Some, None, refl, sym, ap, ◌∙◌, subst, arith}
+use Rattle.std.proofs.Common.{◌≡◌, ◌⊎◌, inl, inr, ℕ, zero, suc, ◌<◌, ◌≤◌, Bool, true, false, List, [], ◌∷◌, ◌++◌, length, Some, refl, sym, ap, ◌∙◌, subst, arith}
 use Rattle.std.specs.Prelude.{slice_get, if◌then◌else◌}
 use Rattle.ev_graph.specs.declared.events.Access.{Access}
 use Rattle.ev_graph.specs.declared.events.FenceItem.{FenceItem}
@@ -9,7 +9,7 @@ use Rattle.ev_graph.specs.declared.events.Item.TheVariants as items
 use Rattle.ev_graph.specs.declared.events.Transfer.{Transfer}
 use Rattle.ev_graph.specs.Events.{accesses, accesses_before, FenceBetween}
 use Rattle.fence_plan.specs.Planned.{is_barrier, with_barrier, shared_view}
-use Rattle.fence_plan.proofs.Mapped.{both, none_there, some_same}
+use Rattle.fence_plan.proofs.Mapped.{both, none_there}
 
 -- whether the access with this number is left out
 abbrev pub is_hidden : List Bool → ℕ → Bool

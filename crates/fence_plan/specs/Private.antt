@@ -1,5 +1,5 @@
 -- Which accesses are private: those of unlocked slots that are said to be.
-use Rattle.std.specs.Prelude.{Bool, true, false, not, ◌&&◌, ◌||◌, List, [], ◌∷◌}
+use Rattle.std.specs.Prelude.{Bool, false, not, ◌&&◌, ◌||◌, List, [], ◌∷◌}
 use Rattle.ev_graph.specs.declared.events.Access.{Access}
 use Rattle.ev_graph.specs.declared.events.AccessKind.{AccessKind}
 use Rattle.ev_graph.specs.declared.events.AccessKind.TheVariants as access

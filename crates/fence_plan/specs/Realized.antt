@@ -11,7 +11,7 @@ use Rattle.behavior.specs.Tree.{Tree, Gives, Begins, Acts, Next, Goes, Stops}
 use Rattle.x64_syntax.specs.declared.slots.Slot.{Slot}
 use Rattle.x64_syntax.specs.declared.slots.SlotKind.TheVariants.{Locked}
 use Rattle.fence_plan.specs.declared.gap.Gap.{Gap}
-use Rattle.fence_plan.specs.Private.{is_private, slot_kind, has_shared}
+use Rattle.fence_plan.specs.Private.{is_private, slot_kind}
 use Rattle.fence_plan.specs.Gaps.{Station, Shared, Strong, gaps}
 
 -- The items of one act are what the first of the stations stands for, and the others are left; or they are none that counts.
