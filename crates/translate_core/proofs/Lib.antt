@@ -19,3 +19,4 @@ pub mod PassedBlocks
 pub mod Ended
 pub mod Closed
 pub mod Imaged
+pub mod Sizes
