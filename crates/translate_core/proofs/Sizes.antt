@@ -1,6 +1,7 @@
 -- How many words the blocks of recovered code take, and how many return sites it has.
 use Rattle.std.proofs.Common.{◌≡◌, ◌<◌, ◌≤◌, ◌+◌, ◌*◌, ℕ, zero, suc, false, List, [], ◌∷◌, length, drop, map, ◌⊎◌, inl, inr, Some, refl, sym, ap, subst, ◌∙◌, arith}
 use Rattle.std.specs.Prelude.{sum_by, slice_get}
+use Rattle.std.specs.List.{AllByRecursion}
 use Rattle.std.specs.Option.{option_map}
 use Rattle.std.proofs.lemmas.Bool.{cases_lt}
 use Rattle.std.proofs.lemmas.List.{length-map}
@@ -23,7 +24,7 @@ use Rattle.cfg_walk.specs.Blocks.{IsLeader, AreOf, ends_block, returned_to}
 use Rattle.cfg_walk.specs.Code.{IsIncreasing, IsCodeOf}
 use Rattle.cfg_walk.proofs.BlockLemmas.{next, one_placed}
 use Rattle.cfg_walk.proofs.Instructions.{AreStretch, block_stretch}
-use Rattle.cfg_walk.proofs.CallerLemmas.{known_code, have_instructions}
+use Rattle.cfg_walk.proofs.CallerLemmas.{known_code, have_instructions, one_of_block}
 use Rattle.lift_alu.specs.Meant as meant
 use Rattle.lift_alu.specs.Meant.{words_of, most_words, after}
 use Rattle.lift.specs.Block.{end_from}
@@ -34,7 +35,8 @@ use Rattle.a64_block.specs.declared.block.AEnd.{AEnd}
 use Rattle.a64_block.specs.declared.block.AEnd.TheVariants as ends
 use Rattle.a64_block.specs.declared.block.ABlock.{ABlock}
 use Rattle.a64_block.specs.Renamed.{renamed_end, IsRenamedEnd}
-use Rattle.code_layout.specs.Places.{end_size, block_size, blocks_size}
+use Rattle.code_layout.specs.Places.{end_size, block_size, blocks_size, firsts}
+use Rattle.code_layout.proofs.Literals.{all_at}
 use Rattle.translate_core.proofs.CodeRealizes.{AreInner, block_inner}
 
 some_same : {A : Type 0} {x y : A} → Some x ≡ Some y → x ≡ y
@@ -417,3 +419,32 @@ module _ (program : Program) (code : Code) (is : IsCodeOf program code) where
       let few = few_placed in
       let all = all_shares code.placed in
       omega (arith, fit, paid, few, all)
+
+  -- ---- blocks by where they begin
+
+  -- the block is no longer than that of some instructions, which are those of the block of the code that begins where it does
+  pub record IsSized (b : ABlock XReg) : Type 0 where
+    pub block : Block
+    pub ps : List Placed
+    pub known : StandsIn code.blocks block
+    pub are : AreOf code.placed block ps
+    pub first : block.first ≡ b.first
+    pub within : IsWithin ps b
+
+  -- the same, where each block begins where that of its number does
+  pub sized_fit : (blocks : List (ABlock XReg)) → firsts blocks ≡ map (λ (b : Block). b.first) code.blocks → AllByRecursion IsSized blocks
+      → blocks_size blocks + 15 * length code.sites ≤ 64 * 65536
+  sized_fit blocks begin sized = words_fit blocks many (λ k b at ps are. same_within k b at ps are (all_at IsSized blocks k b sized at))
+    where
+      many : length blocks ≡ length code.blocks
+      many = sym (length-map blocks (λ (b : ABlock XReg). b.first)) ∙ ap length begin ∙ length-map code.blocks (λ (b : Block). b.first)
+
+      same_within : (k : ℕ) (b : ABlock XReg) → slice_get blocks k ≡ Some b → (ps : List Placed) → AreOfBlock code k ps → IsSized b → IsWithin ps b
+      same_within k b at ps are one =
+          let starts = slice_get-map (λ (b : ABlock XReg). b.first) blocks k ∙ ap (option_map (λ (b : ABlock XReg). b.first)) at in
+          let here : slice_get (map (λ (b : Block). b.first) code.blocks) k ≡ Some b.first = sym (ap (λ l. slice_get l k) begin) ∙ starts in
+          let there = begun_in code.blocks one.known.0 one.block one.known.1 ∙ ap Some one.first in
+          let level : one.known.0 ≡ k = once (map (λ (b : Block). b.first) code.blocks) is.blocks.sorted one.known.0 k b.first there here in
+          let same : one.block ≡ are.block = some_same (sym one.known.1 ∙ ap (slice_get code.blocks) level ∙ are.here) in
+          let list = one_of_block program code is are.block one.ps ps (subst (λ (c : Block). AreOf code.placed c one.ps) same one.are) are.are in
+          subst (λ qs. IsWithin qs b) list one.within
