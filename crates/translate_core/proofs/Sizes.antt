@@ -1,7 +1,6 @@
 -- How many words the blocks of recovered code take, and how many return sites it has.
 use Rattle.std.proofs.Common.{◌≡◌, ◌<◌, ◌≤◌, ◌+◌, ◌*◌, ℕ, zero, suc, false, List, [], ◌∷◌, length, drop, map, ◌⊎◌, inl, inr, Some, refl, sym, ap, subst, ◌∙◌, arith}
 use Rattle.std.specs.Prelude.{sum_by, slice_get}
-use Rattle.std.specs.List.{AllByRecursion}
 use Rattle.std.specs.Option.{option_map}
 use Rattle.std.proofs.lemmas.Bool.{cases_lt}
 use Rattle.std.proofs.lemmas.List.{length-map}
@@ -13,6 +12,7 @@ use Rattle.x64_syntax.specs.declared.instr.Instr.TheVariants as instr
 use Rattle.x64_syntax.specs.declared.placed.Flow.{Flow}
 use Rattle.x64_syntax.specs.declared.placed.Flow.TheVariants as flow
 use Rattle.x64_syntax.specs.declared.placed.Placed.{Placed}
+use Rattle.x64_syntax.specs.declared.slots.Slot.{Slot}
 use Rattle.elf_read.specs.declared.fault.FileFault.TheVariants.{TooMuchCode}
 use Rattle.code_at.specs.Code.{Program}
 use Rattle.cfg_walk.specs.declared.code.Block.{Block}
@@ -34,9 +34,10 @@ use Rattle.a64_code.specs.declared.instr.XReg.{XReg}
 use Rattle.a64_block.specs.declared.block.AEnd.{AEnd}
 use Rattle.a64_block.specs.declared.block.AEnd.TheVariants as ends
 use Rattle.a64_block.specs.declared.block.ABlock.{ABlock}
-use Rattle.a64_block.specs.Renamed.{renamed_end, IsRenamedEnd}
-use Rattle.code_layout.specs.Places.{end_size, block_size, blocks_size, firsts}
+use Rattle.a64_block.specs.Renamed.{renamed_end}
+use Rattle.code_layout.specs.Places.{end_size, block_size, blocks_size}
 use Rattle.code_layout.proofs.Literals.{all_at}
+use Rattle.translate_core.specs.Passed.{ArePassed, IsPassed, IsWithin}
 use Rattle.translate_core.proofs.CodeRealizes.{AreInner, block_inner}
 
 some_same : {A : Type 0} {x y : A} → Some x ≡ Some y → x ≡ y
@@ -158,11 +159,6 @@ same_end_size g (ends.Branch r a b) = refl
 same_end_size g (ends.Return r) = refl
 same_end_size g (ends.Indexed r table) = refl
 same_end_size g (ends.Stop kind) = refl
-
--- the block has no more words than its instructions have at most, and ends as the last of them
-pub record IsWithin (ps : List Placed) (b : ABlock XReg) : Type 0 where
-  pub few : length b.steps ≤ sum_by most_words ps
-  pub end : IsRenamedEnd (selected_end (end_from 0 ps)) b.end
 
 block_fits : (ps : List Placed) (b : ABlock XReg) → 0 < length ps → IsWithin ps b → block_size b ≤ sum_by block_share ps
 block_fits [] b some within = absurd (omega (arith, some))
@@ -422,27 +418,18 @@ module _ (program : Program) (code : Code) (is : IsCodeOf program code) where
 
   -- ---- blocks by where they begin
 
-  -- the block is no longer than that of some instructions, which are those of the block of the code that begins where it does
-  pub record IsSized (b : ABlock XReg) : Type 0 where
-    pub block : Block
-    pub ps : List Placed
-    pub known : StandsIn code.blocks block
-    pub are : AreOf code.placed block ps
-    pub first : block.first ≡ b.first
-    pub within : IsWithin ps b
-
-  -- the same, where each block begins where that of its number does
-  pub sized_fit : (blocks : List (ABlock XReg)) → firsts blocks ≡ map (λ (b : Block). b.first) code.blocks → AllByRecursion IsSized blocks
+  -- the same of the blocks that the passes made
+  pub passed_fit : (private : List Slot) (blocks : List (ABlock XReg)) → ArePassed private code code.blocks blocks
       → blocks_size blocks + 15 * length code.sites ≤ 64 * 65536
-  sized_fit blocks begin sized = words_fit blocks many (λ k b at ps are. same_within k b at ps are (all_at IsSized blocks k b sized at))
+  passed_fit private blocks passed = words_fit blocks many (λ k b at ps are. same_within k b at ps are (all_at (IsPassed private code) blocks k b passed.passed at))
     where
       many : length blocks ≡ length code.blocks
-      many = sym (length-map blocks (λ (b : ABlock XReg). b.first)) ∙ ap length begin ∙ length-map code.blocks (λ (b : Block). b.first)
+      many = sym (length-map blocks (λ (b : ABlock XReg). b.first)) ∙ ap length passed.begin ∙ length-map code.blocks (λ (b : Block). b.first)
 
-      same_within : (k : ℕ) (b : ABlock XReg) → slice_get blocks k ≡ Some b → (ps : List Placed) → AreOfBlock code k ps → IsSized b → IsWithin ps b
+      same_within : (k : ℕ) (b : ABlock XReg) → slice_get blocks k ≡ Some b → (ps : List Placed) → AreOfBlock code k ps → IsPassed private code b → IsWithin ps b
       same_within k b at ps are one =
           let starts = slice_get-map (λ (b : ABlock XReg). b.first) blocks k ∙ ap (option_map (λ (b : ABlock XReg). b.first)) at in
-          let here : slice_get (map (λ (b : Block). b.first) code.blocks) k ≡ Some b.first = sym (ap (λ l. slice_get l k) begin) ∙ starts in
+          let here : slice_get (map (λ (b : Block). b.first) code.blocks) k ≡ Some b.first = sym (ap (λ l. slice_get l k) passed.begin) ∙ starts in
           let there = begun_in code.blocks one.known.0 one.block one.known.1 ∙ ap Some one.first in
           let level : one.known.0 ≡ k = once (map (λ (b : Block). b.first) code.blocks) is.blocks.sorted one.known.0 k b.first there here in
           let same : one.block ≡ are.block = some_same (sym one.known.1 ∙ ap (slice_get code.blocks) level ∙ are.here) in

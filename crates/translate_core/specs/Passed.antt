@@ -1,5 +1,5 @@
 -- Blocks of words that the passes made of blocks of recovered code, where some slots are private.
-use Rattle.std.specs.Prelude.{◌≡◌, ◌≢◌, ℕ, List, flat_map, map}
+use Rattle.std.specs.Prelude.{◌≡◌, ◌≢◌, ◌≤◌, ℕ, List, length, flat_map, map, sum_by}
 use Rattle.std.specs.List.{AllByRecursion}
 use Rattle.ev_graph.specs.Places.{StandsIn}
 use Rattle.ev_graph.specs.declared.events.TrapKind.TheVariants.{BadAccess}
@@ -11,16 +11,19 @@ use Rattle.cfg_walk.specs.Blocks.{AreOf}
 use Rattle.cfg_walk.specs.Running.{IsBegun}
 use Rattle.limm_ir.specs.declared.block.IrEnd.{IrEnd}
 use Rattle.limm_ir.specs.declared.step.IrStep.{IrStep}
-use Rattle.lift.specs.Block.{LiftsBlock}
+use Rattle.lift_alu.specs.Meant.{most_words}
+use Rattle.lift.specs.Block.{LiftsBlock, end_from}
 use Rattle.fence_place.specs.Fenced.{KeepsPlaced}
 use Rattle.fence_place.specs.Marked.{marked}
 use Rattle.fence_merge.specs.Roles.{stations}
 use Rattle.fence_merge.specs.Follows.{FollowsPlanOf}
+use Rattle.isel.specs.Groups.{selected_end}
 use Rattle.isel.specs.Selected.{MeansSteps}
 use Rattle.regalloc.specs.Allocated.{MeansNumbers}
 use Rattle.a64_code.specs.declared.instr.XReg.{XReg}
 use Rattle.a64_code.specs.declared.instr.A64.{A64}
 use Rattle.a64_block.specs.Conditions.{IsLayable}
+use Rattle.a64_block.specs.Renamed.{IsRenamedEnd}
 use Rattle.a64_block.specs.declared.block.ABlock.{ABlock}
 use Rattle.a64_block.specs.declared.block.AEnd.{AEnd}
 use Rattle.a64_block.specs.declared.block.AEnd.TheVariants as ends
@@ -42,6 +45,11 @@ pub record Passes (private : List Slot) (ps : List Placed) (xs : List (A64 XReg)
   pub selects : MeansSteps merged end words words_end
   pub allocates : MeansNumbers words words_end xs fin
 
+-- the block is no longer than what these instructions may take, and ends as the last of them
+pub record IsWithin (ps : List Placed) (b : ABlock XReg) : Type 0 where
+  pub few : length b.steps ≤ sum_by most_words ps
+  pub end : IsRenamedEnd (selected_end (end_from 0 ps)) b.end
+
 -- a block of words that the passes made of a block of the code
 pub record IsPassed (private : List Slot) (code : Code) (b : ABlock XReg) : Type 0 where
   pub block : Block
@@ -49,6 +57,7 @@ pub record IsPassed (private : List Slot) (code : Code) (b : ABlock XReg) : Type
   pub known : StandsIn code.blocks block
   pub are : AreOf code.placed block ps
   pub first : block.first ≡ b.first
+  pub within : IsWithin ps b
   pub passes : Passes private ps b.steps b.end
 
 -- Where a block leads to that ends so, blocks of the code begin. None leads to a table's entries, and none ends by the trap of an

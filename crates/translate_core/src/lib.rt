@@ -2,8 +2,10 @@
 #![tactic(auto)]
 
 mod block;
+mod written;
 
 pub use block::pass_blocks;
+pub use written::written_image;
 
 #[cfg(test)]
 mod tests;

@@ -1,8 +1,9 @@
-use Rattle.std.proofs.Common.{sym, ap, ◌∙◌, subst}
+use Rattle.std.proofs.Common.{sym, ap, ◌∙◌, subst, arith}
 use Rattle.cfg_walk.proofs.Instructions.{block_stretch}
 use Rattle.lift.proofs.CallerLemmas.{instructions, are_lifted}
 use Rattle.isel.specs.Groups.{selected_end}
 use Rattle.isel.specs.Selected.{MeansSteps}
+use Rattle.a64_block.specs.Renamed.{IsRenamedEnd}
 use Rattle.translate_core.specs.Passed.{LeadsOn}
 use Rattle.translate_core.proofs.Ended.{leads_renamed, leads_from}
 use Rattle.translate_core.proofs.BlockStations.{steps_count}
@@ -23,6 +24,10 @@ returns-clause-passed c =
       ps = ps;
       known = (c.args.number, are.here);
       are = are.are;
+      within = record {
+        few = omega (arith, words.ensures.many, selected.ensures.few, merged.ensures.few lifted.lifted.steps fenced.ensures.fences, lifted.ensures.few ps are);
+        end = subst (λ e. IsRenamedEnd e words.words.end) (selected.ensures.end ∙ ap selected_end (merged.ensures.end ∙ fenced.ensures.end ∙ lifted.ensures.end ps are)) words.ensures.end;
+      };
       first = sym (words.ensures.first ∙ selected.ensures.first ∙ merged.ensures.first ∙ fenced.ensures.first ∙ lifted.ensures.first are.block are.here);
       passes = record {
         steps = lifted.lifted.steps;
