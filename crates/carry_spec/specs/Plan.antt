@@ -1,5 +1,5 @@
 -- The fence plan of a file's code: the gaps of each block, and what is counted of them.
-use Rattle.std.specs.Prelude.{◌≡◌, ℕ, Bool, List, [], ◌∷◌, ◌++◌, length, flat_map, sum_by, count_by, Option, Some, None, if◌then◌else◌}
+use Rattle.std.specs.Prelude.{◌≡◌, ℕ, Bool, not, List, [], ◌∷◌, ◌++◌, length, filter, flat_map, sum_by, count_by, Option, Some, None, if◌then◌else◌}
 use Rattle.ev_graph.specs.Places.{StandsIn}
 use Rattle.x64_syntax.specs.declared.instr.Instr.{Instr}
 use Rattle.x64_syntax.specs.declared.instr.Instr.TheVariants as instr
@@ -12,6 +12,7 @@ use Rattle.cfg_walk.specs.Blocks.{AreOf}
 use Rattle.fence_plan.specs.declared.gap.Gap.{Gap}
 use Rattle.fence_plan.specs.Gaps.{Station, Shared, Strong, gaps}
 use Rattle.fence_plan.specs.Private.{hides}
+use Rattle.carry_spec.specs.declared.plan.BlockPlan.{BlockPlan}
 use Rattle.carry_spec.specs.declared.summary.Summary.{Summary}
 
 -- a slot counts for the plan unless it is private
@@ -42,6 +43,25 @@ AreOfEach placed [] [] = Unit {0}
 AreOfEach placed [] (ps ∷ pss) = ⊥
 AreOfEach placed (b ∷ bs) [] = ⊥
 AreOfEach placed (b ∷ bs) (ps ∷ pss) = AreOf placed b ps × AreOfEach placed bs pss
+
+-- the slots of these instructions that are not private
+abbrev pub shared_slots : (private : Slot → Bool) → List Placed → List Slot
+shared_slots private ps = filter (λ s. not (hides private s)) (flat_map placed_slots ps)
+
+-- the plan of the block that begins at an address, with these instructions
+abbrev pub block_plan : (private : Slot → Bool) → (first : ℕ) → List Placed → BlockPlan
+block_plan private first ps = record { first = first; slots = shared_slots private ps; gaps = block_gaps private ps }
+
+-- the plans of blocks with these instructions, block by block
+abbrev pub block_plans : (private : Slot → Bool) → List Block → List (List Placed) → List BlockPlan
+block_plans private (b ∷ bs) (ps ∷ pss) = block_plan private b.first ps ∷ block_plans private bs pss
+block_plans private bs pss = []
+
+-- these are the plans of the blocks of the code, by address
+pub record ArePlans (private : Slot → Bool) (code : Code) (plans : List BlockPlan) : Type 0 where
+  pub blocks : List (List Placed)
+  pub are : AreOfEach code.placed code.blocks blocks
+  pub planned : plans ≡ block_plans private code.blocks blocks
 
 -- what is counted of so many threads and of blocks with these instructions
 abbrev pub summary_of : (private : Slot → Bool) → (threads : ℕ) → List (List Placed) → Summary

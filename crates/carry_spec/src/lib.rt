@@ -3,6 +3,8 @@
 //! Sources: backward and forward simulation of compilers (Leroy, CACM 52(7), 2009); executions with rf and co as in Alglave, Maranget, Tautschnig, TOPLAS 36(2), 2014.
 #![tactic(auto)]
 
+mod plan;
 mod summary;
 
+pub use plan::BlockPlan;
 pub use summary::Summary;

@@ -6,34 +6,33 @@ use Rattle.lasagne.specs.declared.command.Status.TheVariants as status
 use Rattle.lz_ports.specs.Ports.{Files, Rose, IsPut, IsTorn, IsLonger, Told, Took, TookPart}
 use Rattle.elf_read.specs.declared.fault.FileFault.{FileFault}
 use Rattle.elf_read.specs.declared.fault.FileFault.TheVariants as file
-use Rattle.elf_read.specs.FileFaults.{Holds}
-use Rattle.elf_read.specs.FirstFault.{rank, Before, IsFirst}
-use Rattle.lasagne.specs.declared.translation.TranslateFault.{TranslateFault}
-use Rattle.lasagne.specs.declared.translation.TranslateFault.TheVariants.{File}
-use Rattle.lasagne.specs.Accepted.{IsRefusedFor}
-use Rattle.lasagne.specs.Carries.{CarriesInArm}
-use Rattle.lasagne.specs.Command.{World, Ends, Answers, IsTold, OfImage, SameFiles}
+use Rattle.elf_read.specs.FirstFault.{rank, Before}
+use Rattle.cfg_walk.specs.declared.code.Code.{Code}
+use Rattle.carry_spec.specs.Faults.{IsRefusedFor}
+use Rattle.lasagne.specs.Image.{IsImageFor}
+use Rattle.lasagne.specs.Command.{World, Ends, Answers, IsSaid, OfImage, SameFiles}
+use Rattle.lasagne.specs.Texts.{refused_line}
 
 -- a count that rose later rose
 pub rose_later : (a b c : ℕ) → a ≤ b → Rose b c → Rose a c
 rose_later a b c low rose = omega (arith, rose)
 
 -- a file that is too long has that fault first
-longer_is_first : (bytes : List ℕ) → 67108864 < length bytes → IsFirst (Holds bytes) 1 13 file.TooLong
-longer_is_first bytes long = record { holds = long; from = omega arith; below = omega arith; first = λ g from before holds. none g from before }
+longer_is_first : (bytes : List ℕ) → 67108864 < length bytes → IsRefusedFor bytes file.TooLong
+longer_is_first bytes long = record { holds = inl long; from = omega arith; below = omega arith; first = λ g from before holds. none g from before }
   where
     none : (g : FileFault) → 1 ≤ rank g → Before g file.TooLong → ⊥
     none g from (inl less) = absurd (omega (arith, from, less))
     none g from (inr (same, less)) = absurd (omega (arith, less))
 
 pub longer_refused : (files : Option Files) (name : List ℕ) (limit before now : ℕ) → limit ≡ 67108864
-    → IfSome files (λ f. IsLonger f name limit × (Rose before now → ⊥)) → IfSome files (λ f. (bytes : List ℕ) × (f name ≡ Some bytes) × IsRefusedFor bytes (File file.TooLong))
+    → IfSome files (λ f. IsLonger f name limit × (Rose before now → ⊥)) → IfSome files (λ f. (bytes : List ℕ) × (f name ≡ Some bytes) × IsRefusedFor bytes file.TooLong)
 longer_refused None name limit before now e longer = longer
 longer_refused (Some f) name limit before now e longer =
     (longer.0.bytes, longer.0.here, longer_is_first longer.0.bytes (let long = longer.0.longer in omega (arith, e, long)))
 
 -- so has one that was not translated the fault for which it was not
-pub fault_refused : (files : Option Files) (name items bytes : List ℕ) (why : TranslateFault) → bytes ≡ items → IsRefusedFor bytes why
+pub fault_refused : (files : Option Files) (name items bytes : List ℕ) (why : FileFault) → bytes ≡ items → IsRefusedFor bytes why
     → IfSome files (λ f. f name ≡ Some items) → IfSome files (λ f. (bytes : List ℕ) × (f name ≡ Some bytes) × IsRefusedFor bytes why)
 fault_refused None name items bytes why same refused read = read
 fault_refused (Some f) name items bytes why same refused read = (items, read, subst (λ b. IsRefusedFor b why) same refused)
@@ -44,17 +43,16 @@ read_same None name items bytes same read = read
 read_same (Some f) name items bytes same read = read ∙ ap Some (sym same)
 
 -- the end of a refusal
-pub refused : (result : Status) (from to : List ℕ) (old new : World) (why : TranslateFault)
+pub refused : (result : Status) (from to : List ℕ) (old new : World) (why : FileFault)
     → IfSome old.files (λ files. (bytes : List ℕ) × (files from ≡ Some bytes) × IsRefusedFor bytes why) → SameFiles old new
-    → IsTold why old.taken old.sink_faults new.taken new.sink_faults result → Ends result from to old new
-refused result from to old new why fault same (inl (some, inl said)) = subst (λ s. Ends s from to old new) (sym said.0) (same, (why, (some, fault), said.1))
-refused result from to old new why fault same (inl (some, inr none)) = subst (λ s. Ends s from to old new) (sym none.0) (none.1, inl same)
+    → IsSaid (refused_line why) status.Refused old.taken old.sink_faults new.taken new.sink_faults result → Ends result from to old new
+refused result from to old new why fault same (inl said) = subst (λ s. Ends s from to old new) (sym said.0) (same, (why, fault, said.1))
 refused result from to old new why fault same (inr none) = subst (λ s. Ends s from to old new) (sym none.0) (none.1, inl same)
 
 -- an image that was made of what was read
-pub of_image : {P : List ℕ → List ℕ → Type 0} (from : List ℕ) (old : World) (items input image : List ℕ) → input ≡ items
-    → IfSome old.files (λ f. f from ≡ Some items) → CarriesInArm input image → P input image → OfImage from old P
-of_image from old items input image same read carries holds = (input, image, carries, read_same old.files from items input same read, holds)
+pub of_image : (P : List ℕ → Code → List ℕ → Type 0) (from : List ℕ) (old : World) (items input image : List ℕ) → input ≡ items
+    → IfSome old.files (λ f. f from ≡ Some items) → (is : IsImageFor input image) → P input is.carries.code image → OfImage from old P
+of_image P from old items input image same read is holds = (input, image, is, read_same old.files from items input same read, holds)
 
 -- what a `put` after a `get` left, as seen from before both
 pub put_image : (old read new : Option Files) (to bytes image : List ℕ) → read ≡ old → bytes ≡ image → Told read new (IsPut to bytes) → Told old new (IsPut to image)

@@ -1,11 +1,2 @@
-pub mod Accounted
-pub mod Barriers
 pub mod Carried
-pub mod Counted
 pub mod Endings
-pub mod FullFences
-pub mod LaidLines
-pub mod Permitted
-pub mod SameThreads
-pub mod Simulated
-pub mod StartBytes

@@ -1,15 +1,13 @@
 -- How a call ends: for each status when it comes, and what it leaves.
-use Rattle.std.specs.Prelude.{◌≡◌, ◌≢◌, ◌⊎◌, ℕ, List, [], ◌∷◌, codes, Option, Some, IfSome}
+use Rattle.std.specs.Prelude.{◌≡◌, ◌⊎◌, ℕ, List, [], ◌∷◌, codes, Option, Some, IfSome}
 use Rattle.lasagne.specs.declared.command.Status.{Status}
 use Rattle.lasagne.specs.declared.command.Status.TheVariants.{Done, Refused, Usage, ReadFailed, WriteFailed, NoMemory, NotExplained, OutFailed}
-use Rattle.lasagne.specs.declared.plan.Summary.{Summary}
 use Rattle.lz_ports.specs.Ports.{Files, Rose, IsPut, IsTorn, Told, Took, TookPart}
-use Rattle.lasagne.specs.declared.translation.TranslateFault.{TranslateFault}
-use Rattle.lasagne.specs.declared.translation.TranslateFault.TheVariants as fault
-use Rattle.lasagne.specs.Accepted.{IsRefusedFor}
-use Rattle.lasagne.specs.Carries.{CarriesInArm}
-use Rattle.lasagne.specs.Counting.{nothing}
-use Rattle.lasagne.specs.Lines.{HasSummary}
+use Rattle.elf_read.specs.declared.fault.FileFault.{FileFault}
+use Rattle.cfg_walk.specs.declared.code.Code.{Code}
+use Rattle.carry_spec.specs.declared.summary.Summary.{Summary}
+use Rattle.carry_spec.specs.Faults.{IsRefusedFor}
+use Rattle.lasagne.specs.Image.{IsImageFor, HasSummary}
 use Rattle.lasagne.specs.Texts.{usage_line, refused_line, translated_line}
 
 -- What is told of the outside at a moment: the files, what the sink has taken, and the two counts of faults.
@@ -38,26 +36,27 @@ SameTaken old new = new.taken ≡ old.taken
 abbrev pub Says : List ℕ → World → World → Type 0
 Says text old new = Told old.taken new.taken (Took text) ⊎ (Rose old.sink_faults new.sink_faults × Told old.taken new.taken (TookPart text))
 
--- an image that carries the bytes under a name, and of both this holds
-abbrev pub OfImage : List ℕ → World → (List ℕ → List ℕ → Type 0) → Type 0
-OfImage from old P = (input : List ℕ) × (image : List ℕ) × CarriesInArm input image × IfSome old.files (λ files. files from ≡ Some input) × P input image
+-- an image for the bytes under a name, and of both and the code of those bytes this holds
+abbrev pub OfImage : List ℕ → World → (List ℕ → Code → List ℕ → Type 0) → Type 0
+OfImage from old P =
+    (input : List ℕ) × (image : List ℕ) × (is : IsImageFor input image) × IfSome old.files (λ files. files from ≡ Some input) × P input is.carries.code image
 
--- OUT has an image that carries the bytes that were under IN, and all other names are as before
+-- OUT has an image for the bytes that were under IN, and all other names are as before
 abbrev pub HasImage : List ℕ → List ℕ → World → World → Type 0
-HasImage from to old new = OfImage from old (λ input image. Told old.files new.files (IsPut to image))
+HasImage from to old new = OfImage from old (λ input code image. Told old.files new.files (IsPut to image))
 
 -- the same, with something of the summary of the bytes that were under IN
 abbrev pub HasImageAnd : List ℕ → List ℕ → World → World → (Summary → Type 0) → Type 0
 HasImageAnd from to old new P =
-    OfImage from old (λ input image. Told old.files new.files (IsPut to image) × (summary : Summary) × HasSummary nothing input summary × P summary)
+    OfImage from old (λ input code image. Told old.files new.files (IsPut to image) × (summary : Summary) × HasSummary input code summary × P summary)
 
 -- the bytes under IN, where they are told, are refused for this fault
-abbrev pub HasFault : List ℕ → World → TranslateFault → Type 0
-HasFault from old why = (why ≢ fault.NoMemory) × IfSome old.files (λ files. (bytes : List ℕ) × (files from ≡ Some bytes) × IsRefusedFor bytes why)
+abbrev pub HasFault : List ℕ → World → FileFault → Type 0
+HasFault from old why = IfSome old.files (λ files. (bytes : List ℕ) × (files from ≡ Some bytes) × IsRefusedFor bytes why)
 
 -- the file under IN is refused for a fault, and a line tells it
 abbrev pub IsRefusal : List ℕ → World → World → Type 0
-IsRefusal from old new = (why : TranslateFault) × HasFault from old why × Says (refused_line why) old new
+IsRefusal from old new = (why : FileFault) × HasFault from old why × Says (refused_line why) old new
 
 -- The table of ends of `translate IN OUT`. Each status has its cause; want of memory alone is free.
 abbrev pub Ends : Status → List ℕ → List ℕ → World → World → Type 0
@@ -65,7 +64,7 @@ Ends Done from to old new = HasImageAnd from to old new (λ summary. Told old.ta
 Ends Refused from to old new = SameFiles old new × IsRefusal from old new
 Ends ReadFailed from to old new = Rose old.shelf_faults new.shelf_faults × SameFiles old new × SameTaken old new
 Ends WriteFailed from to old new =
-    Rose old.shelf_faults new.shelf_faults × OfImage from old (λ input image. Told old.files new.files (IsTorn to image)) × SameTaken old new
+    Rose old.shelf_faults new.shelf_faults × OfImage from old (λ input code image. Told old.files new.files (IsTorn to image)) × SameTaken old new
 Ends OutFailed from to old new =
     Rose old.sink_faults new.sink_faults × HasImageAnd from to old new (λ summary. Told old.taken new.taken (TookPart (translated_line summary)))
 Ends NoMemory from to old new = SameTaken old new × (SameFiles old new ⊎ HasImage from to old new)
@@ -83,8 +82,3 @@ abbrev pub IsSaid : List ℕ → Status → Option (List ℕ) → ℕ → Option
 IsSaid text status old before new now result =
     ((result ≡ status) × (Told old new (Took text) ⊎ (Rose before now × Told old new (TookPart text))))
     ⊎ ((result ≡ NoMemory) × (new ≡ old))
-
--- The fault was told, which refuses, unless memory was wanting.
-abbrev pub IsTold : TranslateFault → Option (List ℕ) → ℕ → Option (List ℕ) → ℕ → Status → Type 0
-IsTold why old before new now result =
-    ((why ≢ fault.NoMemory) × IsSaid (refused_line why) Refused old before new now result) ⊎ ((result ≡ NoMemory) × (new ≡ old))

@@ -1,12 +1,3 @@
-pub mod Accepted
-pub mod Carries
 pub mod Command
-pub mod Counting
-pub mod Executions
-pub mod Faults
-pub mod Explained
-pub mod Laid
-pub mod Lines
-pub mod Plan
+pub mod Image
 pub mod Texts
-pub mod Threads

@@ -5,9 +5,7 @@ use Rattle.elf_read.specs.declared.fault.BadCodeKind.{BadCodeKind}
 use Rattle.elf_read.specs.declared.fault.BadCodeKind.TheVariants as kind
 use Rattle.elf_read.specs.declared.fault.FileFault.{FileFault}
 use Rattle.elf_read.specs.declared.fault.FileFault.TheVariants as file
-use Rattle.lasagne.specs.declared.plan.Summary.{Summary}
-use Rattle.lasagne.specs.declared.translation.TranslateFault.{TranslateFault}
-use Rattle.lasagne.specs.declared.translation.TranslateFault.TheVariants.{File, UnbuiltCode, NoMemory}
+use Rattle.carry_spec.specs.declared.summary.Summary.{Summary}
 
 abbrev pub line : List ℕ → List ℕ
 line text = text ++ 10 ∷ []
@@ -49,15 +47,9 @@ file_fault_text (file.Overlap a) = codes "Overlap " ++ hex a
 file_fault_text (file.TableEntered a) = codes "TableEntered " ++ hex a
 file_fault_text (file.UndefinedFlag a) = codes "UndefinedFlag " ++ hex a
 
--- the same of each fault; want of memory has no text
-abbrev pub fault_text : TranslateFault → List ℕ
-fault_text (File f) = file_fault_text f
-fault_text (UnbuiltCode a) = codes "UnbuiltCode " ++ hex a
-fault_text NoMemory = []
-
 -- the line that tells why a file is refused
-abbrev pub refused_line : TranslateFault → List ℕ
-refused_line fault = line (codes "refused " ++ fault_text fault)
+abbrev pub refused_line : FileFault → List ℕ
+refused_line fault = line (codes "refused " ++ file_fault_text fault)
 
 -- numbers in decimal, each with the text behind it
 abbrev pub counts_text : List (ℕ × List ℕ) → List ℕ

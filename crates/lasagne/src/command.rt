@@ -1,12 +1,14 @@
 ghost use Rattle.std.specs.Prelude.{◌≡◌, ◌≢◌, codes, MatchBool};
-ghost use Rattle.lasagne.specs.Command.{World, Answers, Ends, IsSaid, IsTold};
+ghost use Rattle.lasagne.specs.Command.{World, Answers, Ends, IsSaid};
+ghost use Rattle.lasagne.specs.Texts.{refused_line};
+ghost use Rattle.lasagne.specs.declared.command.Status.TheVariants.{Refused};
 
 use crate::texts::{USAGE, refused_line, translated_line};
-use crate::translation::{TranslateFault, translate};
 use crate::word::Word;
-use elf_read::FileFault;
+use elf_read::{FileFault, TransFault};
 use lz_ports::{GetFault, PutFault, Shelf, Sink, SinkFault};
 use std::alloc::Global;
+use translate_core::translate;
 
 /// How a call of `run` ended.
 #[derive(Clone, Copy, Debug, PartialEq, Eq)]
@@ -42,12 +44,9 @@ fn say<O: Sink>(out: &mut O, text: &[u8], status: Status) -> Status
 }
 
 /// Writes the line that tells why a file is refused; want of memory is told by the status alone.
-fn refuse<O: Sink>(alloc: Global, out: &mut O, fault: TranslateFault) -> Status
-    ensures { IsTold fault (O.taken out.old) (O.faults out.old) (O.taken out.new) (O.faults out.new) result }
+fn refuse<O: Sink>(alloc: Global, out: &mut O, fault: FileFault) -> Status
+    ensures { IsSaid (refused_line fault) Refused (O.taken out.old) (O.faults out.old) (O.taken out.new) (O.faults out.new) result }
 {
-    if fault == TranslateFault::NoMemory {
-        return Status::NoMemory;
-    }
     match refused_line(alloc, fault) {
         Ok(line) => say(out, line.as_bytes(), Status::Refused),
         Err(_) => Status::NoMemory,
@@ -69,16 +68,13 @@ fn translate_command<H: Shelf, O: Sink>(
     let bytes = match shelf.get(alloc, from, INPUT_LIMIT) {
         Ok(bytes) => bytes,
         Err(GetFault::Failed) => return Status::ReadFailed,
-        Err(GetFault::TooLong) => return refuse(
-            alloc,
-            out,
-            TranslateFault::File(FileFault::TooLong),
-        ),
+        Err(GetFault::TooLong) => return refuse(alloc, out, FileFault::TooLong),
         Err(GetFault::NoMemory) => return Status::NoMemory,
     };
     let made = match translate(alloc, &bytes) {
         Ok(made) => made,
-        Err(fault) => return refuse(alloc, out, fault),
+        Err(TransFault::File(fault)) => return refuse(alloc, out, fault),
+        Err(TransFault::NoMemory) => return Status::NoMemory,
     };
     let Ok(line) = translated_line(alloc, made.summary) else {
         return Status::NoMemory;

@@ -1,10 +1,9 @@
 ghost use Rattle.std.specs.Prelude.{◌≡◌, ◌≢◌, ◌++◌, codes, decimal, map, IfOk, OnOk, string_bytes};
-ghost use Rattle.lasagne.specs.Texts.{counts_text, file_fault_text, fault_text, hex, kind_name, refused_line, translated_line};
+ghost use Rattle.lasagne.specs.Texts.{counts_text, file_fault_text, hex, kind_name, refused_line, translated_line};
 
-use crate::plan::Summary;
-use crate::translation::TranslateFault;
 use elf_read::{BadCodeKind, CodeFault, FileFault};
 use std::alloc::{AllocError, Global};
+use translate_core::Summary;
 
 /// The line that tells the shapes of commands.
 pub const USAGE: &[u8] = b"usage: lasagne translate IN OUT, match IN OUT EXEC, plan IN, try N\n";
@@ -109,23 +108,12 @@ fn file_fault_text(alloc: Global, fault: FileFault) -> Result<String, AllocError
     }
 }
 
-/// The name of a fault, with its place.
-fn fault_text(alloc: Global, fault: TranslateFault) -> Result<String, AllocError>
-    ensures { IfOk result (λ text. string_bytes text ≡ fault_text fault) }
-{
-    match fault {
-        TranslateFault::File(fault) => file_fault_text(alloc, fault),
-        TranslateFault::UnbuiltCode(a) => addressed(alloc, "UnbuiltCode ", a),
-        TranslateFault::NoMemory => String::from_str(alloc, ""),
-    }
-}
-
 /// The line that tells why a file is refused.
-pub fn refused_line(alloc: Global, fault: TranslateFault) -> Result<String, AllocError>
+pub fn refused_line(alloc: Global, fault: FileFault) -> Result<String, AllocError>
     ensures { IfOk result (λ text. string_bytes text ≡ refused_line fault) }
 {
     let mut text = String::from_str(alloc, "refused ")?;
-    text.push_str(fault_text(alloc, fault)?.as_str())?;
+    text.push_str(file_fault_text(alloc, fault)?.as_str())?;
     text.push_str("\n")?;
     Ok(text)
 }

@@ -1,5 +1,5 @@
 mod Meaning
 mod Selectable
-mod Lines
+mod Lifted
 mod Recovered
 pub mod CallerLemmas

@@ -38,12 +38,12 @@ address_of p = p.address
 -- ---- lists
 
 -- what is read at a place of a list begins the rest of it
-drop_from : {A : Type 0} (xs : List A) (k : ℕ) (x : A) → slice_get xs k ≡ Some x → drop k xs ≡ x ∷ drop (suc k) xs
+pub drop_from : {A : Type 0} (xs : List A) (k : ℕ) (x : A) → slice_get xs k ≡ Some x → drop k xs ≡ x ∷ drop (suc k) xs
 drop_from [] k x at = absurd (cc)
 drop_from (y ∷ ys) zero x at = cc
 drop_from (y ∷ ys) (suc k) x at = drop_from ys k x at
 
-some_same : {A : Type 0} {x y : A} → Some x ≡ Some y → x ≡ y
+pub some_same : {A : Type 0} {x y : A} → Some x ≡ Some y → x ≡ y
 some_same e = cc
 
 -- an address of a list is that of an instruction at its place
@@ -56,7 +56,7 @@ of_map (p ∷ ps) (suc k) a at = of_map ps k a at
 
 module _ (placed : List Placed) (sorted : IsIncreasing (map (λ (p : Placed). p.address) placed)) where
   -- an instruction's address, in the list of them
-  there : (i : ℕ) (p : Placed) → slice_get placed i ≡ Some p → slice_get (map (λ (p : Placed). p.address) placed) i ≡ Some p.address
+  pub there : (i : ℕ) (p : Placed) → slice_get placed i ≡ Some p → slice_get (map (λ (p : Placed). p.address) placed) i ≡ Some p.address
   there i p at = slice_get-map (λ (p : Placed). p.address) placed i ∙ ap (option_map (λ (p : Placed). p.address)) at
 
   -- addresses rise with places
@@ -64,7 +64,7 @@ module _ (placed : List Placed) (sorted : IsIncreasing (map (λ (p : Placed). p.
   rises i j p q less at other = sorted i j p.address q.address less (there i p at) (there j q other)
 
   -- and places with addresses
-  earlier : (i j : ℕ) (p q : Placed) → slice_get placed i ≡ Some p → slice_get placed j ≡ Some q → p.address < q.address → i < j
+  pub earlier : (i j : ℕ) (p q : Placed) → slice_get placed i ≡ Some p → slice_get placed j ≡ Some q → p.address < q.address → i < j
   earlier i j p q at other less = by (cases_lt i j) (cases_lt j i)
     where
       by : (i < j) ⊎ (j ≤ i) → (j < i) ⊎ (i ≤ j) → i < j
@@ -182,6 +182,38 @@ run_of program first count (goes-on {n} p is open_it more rest) =
     let run = run_of program (end_of p) n rest in
     record { p = p; ps = run.p ∷ run.ps; many = ap suc run.many; first = refl; follow = (run.first, run.follow); lead_on = (open_it, run.lead_on); each = (is, run.each) }
 
+module _ (program : Program) (code : Code) (is : IsCodeOf program code) where
+  -- there are no more instructions than there is code
+  pub few_placed : length code.placed ≤ 65536
+  few_placed = by (cases_lt code_limit (length code.placed))
+    where
+      addresses : List ℕ
+      addresses = map (λ (p : Placed). p.address) code.placed
+
+      weigh : (xs : List ℕ) → sum_by (weight_at program) xs ≡ length xs
+      weigh [] = refl
+      weigh (x ∷ xs) = let rest = weigh xs in let one = sum_by-cons (weight_at program) x xs in omega (arith, rest, one)
+
+      reached : (a : ℕ) → StandsIn addresses a → IsReached program a
+      reached a (k, at) =
+          let (p, there, same) = of_map code.placed k a at in
+          subst (IsReached program) same ((is.placed.exact p).0 (k, there)).reached
+
+      once : IsDistinct addresses
+      once i j x at other = by_order (cases_lt i j) (cases_lt j i)
+        where
+          by_order : (i < j) ⊎ (j ≤ i) → (j < i) ⊎ (i ≤ j) → i ≡ j
+          by_order (inl less) either = absurd (let up = is.placed.sorted i j x x less at other in omega (arith, up))
+          by_order (inr le) (inl less) = absurd (let up = is.placed.sorted j i x x less other at in omega (arith, up))
+          by_order (inr le) (inr ge) = omega (arith, le, ge)
+
+      by : (code_limit < length code.placed) ⊎ (length code.placed ≤ code_limit) → length code.placed ≤ 65536
+      by (inr le) = omega (arith, le)
+      by (inl less) =
+          let long = length-map code.placed (λ (p : Placed). p.address) in
+          absurd (is.clear TooMuchCode (omega arith) (omega arith)
+          (record { some = addresses; reached = reached; once = once; more = (let all = weigh addresses in omega (arith, all, long, less)) }))
+
 module _ (program : Program) (code : Code) (segments : AllByRecursion IsSegment program.parts) (is : IsCodeOf program code) where
   -- it is lifted
   placed_lifted : (p : Placed) → IsPlaced program p → IsLifted p
@@ -253,37 +285,6 @@ module _ (program : Program) (code : Code) (segments : AllByRecursion IsSegment 
       let rest = end_within q ps (suc k) (next_place k p q at each.0 follow.0) follow.1 each.1 in
       omega (arith, rest)
 
-  -- there are no more instructions than there is code
-  few_placed : length code.placed ≤ 65536
-  few_placed = by (cases_lt code_limit (length code.placed))
-    where
-      addresses : List ℕ
-      addresses = map (λ (p : Placed). p.address) code.placed
-
-      weigh : (xs : List ℕ) → sum_by (weight_at program) xs ≡ length xs
-      weigh [] = refl
-      weigh (x ∷ xs) = let rest = weigh xs in let one = sum_by-cons (weight_at program) x xs in omega (arith, rest, one)
-
-      reached : (a : ℕ) → StandsIn addresses a → IsReached program a
-      reached a (k, at) =
-          let (p, there, same) = of_map code.placed k a at in
-          subst (IsReached program) same ((is.placed.exact p).0 (k, there)).reached
-
-      once : IsDistinct addresses
-      once i j x at other = by_order (cases_lt i j) (cases_lt j i)
-        where
-          by_order : (i < j) ⊎ (j ≤ i) → (j < i) ⊎ (i ≤ j) → i ≡ j
-          by_order (inl less) either = absurd (let up = is.placed.sorted i j x x less at other in omega (arith, up))
-          by_order (inr le) (inl less) = absurd (let up = is.placed.sorted j i x x less other at in omega (arith, up))
-          by_order (inr le) (inr ge) = omega (arith, le, ge)
-
-      by : (code_limit < length code.placed) ⊎ (length code.placed ≤ code_limit) → length code.placed ≤ 65536
-      by (inr le) = omega (arith, le)
-      by (inl less) =
-          let long = length-map code.placed (λ (p : Placed). p.address) in
-          absurd (is.clear TooMuchCode (omega arith) (omega arith)
-          (record { some = addresses; reached = reached; once = once; more = (let all = weigh addresses in omega (arith, all, long, less)) }))
-
   -- each instruction of a list stands in the code
   all_stand : (ps : List Placed) → AllByRecursion (IsPlaced program) ps → AllByRecursion (StandsIn code.placed) ps
   all_stand [] each = tt
@@ -319,7 +320,7 @@ module _ (program : Program) (code : Code) (segments : AllByRecursion IsSegment 
       pub lifted : (ps : List Placed) → ps ≡ take b.count (drop place code.placed) → AreLifted ps
       lifted ps same = subst AreLifted (those (run.p ∷ run.ps) are_run ∙ sym same) (record {
         some = omega arith;
-        few = omega (arith, within, run.many, few_placed);
+        few = omega (arith, within, run.many, few_placed program code is);
         each = each_placed_lifted (run.p ∷ run.ps) run.each;
         follow = follows_on (run.p ∷ run.ps) run.each run.follow;
         lead_on = run.lead_on;

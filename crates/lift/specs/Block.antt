@@ -6,7 +6,6 @@ use Rattle.behavior.specs.Leaving.{SameLeft}
 use Rattle.behavior.specs.Seen.{placed_full}
 use Rattle.behavior.specs.Kept.{SameNext, Keeps}
 use Rattle.x64_syntax.specs.Formed.{IsFormed, IsFlowOf}
-use Rattle.x64_syntax.specs.declared.placed.Flow.TheVariants.{Plain}
 use Rattle.x64_syntax.specs.declared.placed.Placed.{Placed}
 use Rattle.x64_table.specs.State.{Thread}
 use Rattle.x64_table.specs.Blocks.{x64_block}
@@ -17,14 +16,8 @@ use Rattle.limm_ir.specs.Blocks.{ir_block}
 use Rattle.limm_ir.specs.declared.block.IrEnd.{IrEnd}
 use Rattle.limm_ir.specs.declared.block.IrEnd.TheVariants.{Goto}
 use Rattle.limm_ir.specs.declared.step.IrStep.{IrStep}
-use Rattle.lift_alu.specs.Built.{is_built, is_lifted, ends_line}
+use Rattle.lift_alu.specs.Built.{is_lifted}
 use Rattle.lift_alu.specs.Meant.{SameThread, after, end_of, AreStepsOf}
-
--- an instruction of a line that can be lifted so far
-pub record IsLiftable (p : Placed) : Type 0 where
-  pub formed : IsFormed p.instr
-  pub built : is_built p.instr ≡ true
-  pub plain : p.flow ≡ Plain
 
 -- an instruction that is lifted, with its flow
 pub record IsLifted (p : Placed) : Type 0 where
@@ -37,12 +30,6 @@ abbrev pub Follow : List Placed → Type 0
 Follow [] = Unit {0}
 Follow (p ∷ []) = Unit {0}
 Follow (p ∷ q ∷ ps) = (q.address ≡ after p) × Follow (q ∷ ps)
-
--- behind each instruction but the last, control goes on
-abbrev pub GoOn : List Placed → Type 0
-GoOn [] = Unit {0}
-GoOn (p ∷ []) = Unit {0}
-GoOn (p ∷ q ∷ ps) = (ends_line p.instr ≡ false) × GoOn (q ∷ ps)
 
 -- no instruction but the last ends a block
 abbrev pub LeadOn : List Placed → Type 0
@@ -57,14 +44,6 @@ pub record AreLifted (ps : List Placed) : Type 0 where
   pub each : AllByRecursion IsLifted ps
   pub follow : Follow ps
   pub lead_on : LeadOn ps
-
--- instructions of a line that can be lifted as one block: at least one, and no more than there are temporaries for
-pub record AreLiftable (ps : List Placed) : Type 0 where
-  pub some : 0 < length ps
-  pub few : length ps ≤ 2 ^ 16
-  pub each : AllByRecursion IsLiftable ps
-  pub follow : Follow ps
-  pub go_on : GoOn ps
 
 -- where the first of the instructions stands
 abbrev pub first_of : List Placed → ℕ

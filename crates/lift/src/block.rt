@@ -33,7 +33,9 @@ fn part(placed: &[Placed], place: usize, count: usize) -> &[Placed]
 }
 
 /// The instructions of the block of this number.
-fn instructions(code: &Code, block: u32) -> &[Placed]
+///
+/// Takes time in the logarithm of the instructions of the code.
+pub fn instructions_of(code: &Code, block: u32) -> &[Placed]
     requires code { IsRecovered code.now }
     requires block { block < length code.now.blocks }
     ensures lifted { AreLifted result.now }
@@ -59,6 +61,6 @@ pub fn lift_block(alloc: Global, code: &Code, block: u32) -> Result<IrBlock, NoM
     ensures unlocked { IfOk result (λ b. AllByRecursion IsUnlocked b.steps) }
     ensures steps { IfOk result (λ b. (ps : Sequence AnyPlaced) → AreOfBlock code.now block ps → AreStepsFrom 0 ps b.steps) }
 {
-    let lifted = lift_placed(alloc, instructions(code, block))?;
+    let lifted = lift_placed(alloc, instructions_of(code, block))?;
     Ok(lifted)
 }

@@ -3,7 +3,7 @@ ghost use Rattle.elf_read.specs.Elf.{IsProgram, parts_of};
 ghost use Rattle.gen_input.specs.BuiltFile.{IsShort};
 ghost use Rattle.lift.specs.Recovered.{IsRecovered};
 
-use crate::{lift_block, lift_line};
+use crate::lift_block;
 use cfg_walk::{Code, recover};
 use elf_read::{Elf, read_elf};
 use ev_graph::List;
@@ -11,109 +11,10 @@ use gen_input::{Symbol, build};
 use limm_ir::{IrEnd, IrOp, IrStep, Temp};
 use std::alloc::Global;
 use std::test::Fail;
-use x64_syntax::{Flow, Instr, Mem, Operand, Placed, Reg, Width};
 
-const RAX: Operand = Operand::Reg(Reg {
-    number: 0,
-    high: false,
-});
-
-const RSI: Operand = Operand::Reg(Reg {
-    number: 6,
-    high: false,
-});
-
-const RDI: Operand = Operand::Reg(Reg {
-    number: 7,
-    high: false,
-});
-
-const AT_RSI: Operand = Operand::Mem(Mem {
-    base: Some(6),
-    index: None,
-    scale: 1,
-    offset: 0,
-    rip: false,
-});
-
-const AT_RDI: Operand = Operand::Mem(Mem {
-    base: Some(7),
-    index: None,
-    scale: 1,
-    offset: 0,
-    rip: false,
-});
-
-/// The first thread of store buffering.
-const LINE: [Placed; 6] = [
-    Placed {
-        address: 0x401000,
-        length: 5,
-        instr: Instr::Mov(Width::Long, RDI, Operand::Imm(0x404000)),
-        flow: Flow::Plain,
-    },
-    Placed {
-        address: 0x401005,
-        length: 5,
-        instr: Instr::Mov(Width::Long, RSI, Operand::Imm(0x404008)),
-        flow: Flow::Plain,
-    },
-    Placed {
-        address: 0x40100A,
-        length: 5,
-        instr: Instr::Mov(Width::Long, RAX, Operand::Imm(1)),
-        flow: Flow::Plain,
-    },
-    Placed {
-        address: 0x40100F,
-        length: 3,
-        instr: Instr::Mov(Width::Quad, AT_RDI, RAX),
-        flow: Flow::Plain,
-    },
-    Placed {
-        address: 0x401012,
-        length: 3,
-        instr: Instr::Mov(Width::Quad, RAX, AT_RSI),
-        flow: Flow::Plain,
-    },
-    Placed {
-        address: 0x401015,
-        length: 1,
-        instr: Instr::Ret,
-        flow: Flow::Plain,
-    },
-];
-
-// each instruction has temporaries of its own
-#[test]
-fn store_buffering_is_lifted(rt: HostRuntime) -> Result<(), Fail> {
-    let alloc = rt.alloc();
-    let block = lift_line(alloc, &LINE).map_err(|_| "no memory")?;
-    let wanted = [
-        IrStep::Const(Temp(0), 0x404000),
-        IrStep::SetReg(7, Temp(0)),
-        IrStep::Const(Temp(256), 0x404008),
-        IrStep::SetReg(6, Temp(256)),
-        IrStep::Const(Temp(512), 1),
-        IrStep::SetReg(0, Temp(512)),
-        IrStep::GetReg(Temp(768), 0),
-        IrStep::GetReg(Temp(769), 7),
-        IrStep::Store(Temp(769), Temp(768), 8, 0x40100F),
-        IrStep::GetReg(Temp(1024), 6),
-        IrStep::Load(Temp(1025), Temp(1024), 8, 0x401012),
-        IrStep::SetReg(0, Temp(1025)),
-        IrStep::GetReg(Temp(1280), 4),
-        IrStep::Load(Temp(1281), Temp(1280), 8, 0x401015),
-        IrStep::GetReg(Temp(1282), 4),
-        IrStep::Const(Temp(1283), 8),
-        IrStep::Op(IrOp::Add, Temp(1284), Temp(1282), Temp(1283)),
-        IrStep::SetReg(4, Temp(1284)),
-    ];
-    assert_eq!(rt; block.first, 0x401000);
-    assert_eq!(rt; block.steps.as_slice(), wanted.as_slice());
-    assert_eq!(rt; block.end, IrEnd::Return(Temp(1281)));
-    Ok(())
-}
+/// The first thread of store buffering, at 401000.
+const STORE_BUFFERING: &[u8] =
+    b"\xBF\0\x40\x40\0\xBE\x08\x40\x40\0\xB8\x01\0\0\0\x48\x89\x07\x48\x8B\x06\xC3";
 
 /// A program with this code at 401000, where its one thread begins.
 fn program(alloc: Global, code: &[u8]) -> Result<Elf, Fail>
@@ -139,6 +40,41 @@ fn recovered(alloc: Global, code: &[u8]) -> Result<Code, Fail>
         Ok(code) => Ok(code),
         Err(_) => Err("refused".into()),
     }
+}
+
+// each instruction has temporaries of its own
+#[test]
+fn store_buffering_is_lifted(rt: HostRuntime) -> Result<(), Fail> {
+    let alloc = rt.alloc();
+    let code = recovered(alloc, STORE_BUFFERING)?;
+    if code.blocks.as_slice().len() != 1 {
+        return Err("not one block".into());
+    }
+    let block = lift_block(alloc, &code, 0).map_err(|_| "no memory")?;
+    let wanted = [
+        IrStep::Const(Temp(0), 0x404000),
+        IrStep::SetReg(7, Temp(0)),
+        IrStep::Const(Temp(256), 0x404008),
+        IrStep::SetReg(6, Temp(256)),
+        IrStep::Const(Temp(512), 1),
+        IrStep::SetReg(0, Temp(512)),
+        IrStep::GetReg(Temp(768), 0),
+        IrStep::GetReg(Temp(769), 7),
+        IrStep::Store(Temp(769), Temp(768), 8, 0x40100F),
+        IrStep::GetReg(Temp(1024), 6),
+        IrStep::Load(Temp(1025), Temp(1024), 8, 0x401012),
+        IrStep::SetReg(0, Temp(1025)),
+        IrStep::GetReg(Temp(1280), 4),
+        IrStep::Load(Temp(1281), Temp(1280), 8, 0x401015),
+        IrStep::GetReg(Temp(1282), 4),
+        IrStep::Const(Temp(1283), 8),
+        IrStep::Op(IrOp::Add, Temp(1284), Temp(1282), Temp(1283)),
+        IrStep::SetReg(4, Temp(1284)),
+    ];
+    assert_eq!(rt; block.first, 0x401000);
+    assert_eq!(rt; block.steps.as_slice(), wanted.as_slice());
+    assert_eq!(rt; block.end, IrEnd::Return(Temp(1281)));
+    Ok(())
 }
 
 // 401000: nop; jne 401000; ret, where the second block is the return

@@ -1,5 +1,5 @@
 -- An image that is laid out of passed blocks carries its input.
-use Rattle.std.proofs.Common.{ℕ, false, List}
+use Rattle.std.proofs.Common.{ℕ, false, List, refl}
 use Rattle.order_models.specs.Consistent.{Consistent}
 use Rattle.order_models.specs.Orders.{Arm}
 use Rattle.x64_syntax.specs.declared.slots.Slot.{Slot}
@@ -8,8 +8,9 @@ use Rattle.cfg_walk.specs.declared.code.Code.{Code}
 use Rattle.fence_place.specs.Marked.{marked}
 use Rattle.a64_code.specs.declared.instr.XReg.{XReg}
 use Rattle.a64_block.specs.declared.block.ABlock.{ABlock}
-use Rattle.carry_spec.specs.Carries.{Carries, IsImageOf, DoesAsInput}
+use Rattle.carry_spec.specs.Carries.{IsImageOf, DoesAsInput}
 use Rattle.carry_spec.specs.Faults.{HasNoFault}
+use Rattle.translate_core.specs.Translated.{IsCarried}
 use Rattle.translate_core.proofs.Accounted.{Facts, accounts, explanation}
 use Rattle.translate_core.proofs.Allowed.{run_permitted}
 use Rattle.translate_core.proofs.EachThread.{IsLaid, each_planned, each_forward}
@@ -37,14 +38,19 @@ module _ (private : List Slot) (input image : List ℕ) (code : Code) (address :
     explained = λ x y is form order explains tame. accounts (marked private) input image code address words facts x y is explains form tame order;
   }
 
-  -- and so it carries the input
-  pub carries : HasNoFault input → Carries (marked private) (Consistent Arm false) 256 input image
-  carries none = record {
-    no_fault = none;
-    code = code;
-    is_code = laid.is_code;
-    code_address = address;
-    words = words;
-    is_image = of;
-    does = does_as_input;
+  -- and so it carries the input, by this code and these words
+  pub carried : HasNoFault input → IsCarried (marked private) input image code address words
+  carried none = record {
+    carries = record {
+      no_fault = none;
+      code = code;
+      is_code = laid.is_code;
+      code_address = address;
+      words = words;
+      is_image = of;
+      does = does_as_input;
+    };
+    same_code = refl;
+    same_address = refl;
+    same_words = refl;
   }

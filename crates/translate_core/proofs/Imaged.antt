@@ -1,17 +1,15 @@
 -- The file of an image that was laid out of a read program's passed blocks carries the file that was read.
-use Rattle.std.proofs.Common.{◌≡◌, inl, inr, ℕ, ◌≤◌, false, List, [], ◌∷◌, ◌++◌, length, map, arith, sym, ◌∙◌, ap, subst}
+use Rattle.std.proofs.Common.{◌≡◌, inl, inr, ℕ, ◌≤◌, List, [], ◌∷◌, ◌++◌, length, map, arith, sym, ◌∙◌, ap, subst}
 use Rattle.std.proofs.lemmas.List.{length-map}
 use Rattle.std.specs.List.{AllByRecursion}
 use Rattle.ev_graph.specs.Places.{StandsIn}
 use Rattle.ev_graph.specs.Memory.{Fits}
 use Rattle.behavior.specs.Acts.{Permission}
-use Rattle.order_models.specs.Consistent.{Consistent}
-use Rattle.order_models.specs.Orders.{Arm}
 use Rattle.x64_syntax.specs.declared.slots.Slot.{Slot}
 use Rattle.elf_read.specs.declared.elf.Elf.{Elf}
 use Rattle.elf_read.specs.declared.fault.FileFault.TheVariants as fault
-use Rattle.elf_read.specs.Elf.{IsProgram, IsSegment, parts_of}
-use Rattle.elf_read.specs.ElfFile.{segments_of, threads_of, address_of, input_name, output_name}
+use Rattle.elf_read.specs.Elf.{IsSegment, parts_of}
+use Rattle.elf_read.specs.ElfFile.{segments_of, threads_of}
 use Rattle.elf_read.specs.FileFaults as file
 use Rattle.elf_read.specs.FirstFault.{Clear, rank}
 use Rattle.elf_write.specs.declared.image.Image.{Image}
@@ -30,21 +28,13 @@ use Rattle.a64_table.specs.State.{AState}
 use Rattle.a64_block.specs.declared.block.ABlock.{ABlock}
 use Rattle.code_layout.specs.Carried.{IsCarriedOut}
 use Rattle.code_layout.specs.Places.{place_from}
-use Rattle.carry_spec.specs.Carries.{Carries, IsImageOf}
+use Rattle.carry_spec.specs.Carries.{EachFollowsPlan, IsImageOf}
 use Rattle.carry_spec.specs.Faults.{HasNoFault}
 use Rattle.translate_core.specs.Passed.{ArePassed}
-use Rattle.translate_core.proofs.Carried.{carries}
+use Rattle.translate_core.specs.Translated.{IsReadOf, IsCarried}
+use Rattle.translate_core.proofs.Carried.{carried}
 use Rattle.translate_core.proofs.Closed.{threads_begun, each_passed}
-use Rattle.translate_core.proofs.EachThread.{IsLaid}
-
--- what was read of an input
-pub record IsReadOf (input : List ℕ) (elf : Elf) : Type 0 where
-  pub clear : Clear (file.Holds input) (rank fault.TooLong) (rank fault.TooMuchCode)
-  pub segments : parts_of elf ≡ segments_of input
-  pub threads : elf.threads ≡ threads_of input
-  pub reads : elf.input ≡ address_of input input_name
-  pub writes : elf.output ≡ address_of input output_name
-  pub program : IsProgram (parts_of elf) elf.threads
+use Rattle.translate_core.proofs.EachThread.{IsLaid, each_follows_plan}
 
 -- what was laid out of blocks of words
 pub record IsLaidOutOf (elf : Elf) (code : Code) (blocks : List (ABlock XReg)) (image : Image) : Type 0 where
@@ -55,31 +45,32 @@ pub record IsLaidOutOf (elf : Elf) (code : Code) (blocks : List (ABlock XReg)) (
 
 -- the program of the file
 pub of_file : (input : List ℕ) (elf : Elf) → IsReadOf input elf → program_of elf ≡ program_in input
-of_file input elf read = program_read input elf read.segments read.threads read.reads read.writes
+of_file input elf read = program_read input elf read.segments read.threads read.input read.output
 
 pub is_file_code : (input : List ℕ) (elf : Elf) (code : Code) → IsReadOf input elf → IsCodeOf (program_of elf) code → IsFileCode input code
 is_file_code input elf code read is = file_code input elf code (of_file input elf read) is
 
 -- no fault holds of a file that was read, and whose code was recovered
-pub no_fault : (input : List ℕ) (elf : Elf) (code : Code) → IsReadOf input elf → IsCodeOf (program_of elf) code → HasNoFault input
-no_fault input elf code read is = none
+pub no_fault : (input : List ℕ) (elf : Elf) (code : Code) → Clear (file.Holds input) (rank fault.TooLong) (rank fault.TooMuchCode) → IsReadOf input elf
+    → IsCodeOf (program_of elf) code → HasNoFault input
+no_fault input elf code clear read is = none
   where
     own : IsFileCode input code
     own = is_file_code input elf code read is
 
     none : HasNoFault input
-    none fault.TooLong from below (inl holds) = read.clear fault.TooLong (omega arith) (omega arith) holds
-    none fault.Short from below (inl holds) = read.clear fault.Short (omega arith) (omega arith) holds
-    none fault.Magic from below (inl holds) = read.clear fault.Magic (omega arith) (omega arith) holds
-    none fault.Class from below (inl holds) = read.clear fault.Class (omega arith) (omega arith) holds
-    none (fault.BadType kind) from below (inl holds) = read.clear (fault.BadType kind) (omega arith) (omega arith) holds
-    none (fault.Machine machine) from below (inl holds) = read.clear (fault.Machine machine) (omega arith) (omega arith) holds
-    none fault.ProgramTable from below (inl holds) = read.clear fault.ProgramTable (omega arith) (omega arith) holds
-    none (fault.Segment i) from below (inl holds) = read.clear (fault.Segment i) (omega arith) (omega arith) holds
-    none fault.TooBig from below (inl holds) = read.clear fault.TooBig (omega arith) (omega arith) holds
-    none fault.SymbolTable from below (inl holds) = read.clear fault.SymbolTable (omega arith) (omega arith) holds
-    none fault.NoThread from below (inl holds) = read.clear fault.NoThread (omega arith) (omega arith) holds
-    none (fault.DoubleName i) from below (inl holds) = read.clear (fault.DoubleName i) (omega arith) (omega arith) holds
+    none fault.TooLong from below (inl holds) = clear fault.TooLong (omega arith) (omega arith) holds
+    none fault.Short from below (inl holds) = clear fault.Short (omega arith) (omega arith) holds
+    none fault.Magic from below (inl holds) = clear fault.Magic (omega arith) (omega arith) holds
+    none fault.Class from below (inl holds) = clear fault.Class (omega arith) (omega arith) holds
+    none (fault.BadType kind) from below (inl holds) = clear (fault.BadType kind) (omega arith) (omega arith) holds
+    none (fault.Machine machine) from below (inl holds) = clear (fault.Machine machine) (omega arith) (omega arith) holds
+    none fault.ProgramTable from below (inl holds) = clear fault.ProgramTable (omega arith) (omega arith) holds
+    none (fault.Segment i) from below (inl holds) = clear (fault.Segment i) (omega arith) (omega arith) holds
+    none fault.TooBig from below (inl holds) = clear fault.TooBig (omega arith) (omega arith) holds
+    none fault.SymbolTable from below (inl holds) = clear fault.SymbolTable (omega arith) (omega arith) holds
+    none fault.NoThread from below (inl holds) = clear fault.NoThread (omega arith) (omega arith) holds
+    none (fault.DoubleName i) from below (inl holds) = clear (fault.DoubleName i) (omega arith) (omega arith) holds
     none fault.TooMuchCode from below (inr holds) = own.clear fault.TooMuchCode (omega arith) (omega arith) holds
     none (fault.BadCode f) from below (inr holds) = own.clear (fault.BadCode f) (omega arith) (omega arith) holds
     none (fault.UnbuiltCode a) from below (inr holds) = own.clear (fault.UnbuiltCode a) (omega arith) (omega arith) holds
@@ -87,7 +78,8 @@ no_fault input elf code read is = none
     none g from below (inl holds) = absurd holds
     none g from below (inr holds) = absurd holds
 
-module _ (private : List Slot) (input out : List ℕ) (elf : Elf) (code : Code) (blocks : List (ABlock XReg)) (image : Image) (read : IsReadOf input elf) (is : IsCodeOf (program_of elf) code)
+module _ (private : List Slot) (input out : List ℕ) (elf : Elf) (code : Code) (blocks : List (ABlock XReg)) (image : Image) (clear : Clear (file.Holds input) (rank fault.TooLong) (rank fault.TooMuchCode))
+    (read : IsReadOf input elf) (is : IsCodeOf (program_of elf) code)
     (passed : ArePassed private code code.blocks blocks) (laid : IsLaidOutOf elf code blocks image) (written : IsFileOf image out) where
   segments : segments_of out ≡ kept (segments_of input) ++ code_part image.code_address image.words ∷ []
   segments = written.segments ∙ ap (λ ps. ps ++ code_part image.code_address image.words ∷ []) (laid.segments ∙ ap kept read.segments)
@@ -125,5 +117,9 @@ module _ (private : List Slot) (input out : List ℕ) (elf : Elf) (code : Code) 
   }
 
   -- it carries the input
-  pub image_carries : Carries (marked private) (Consistent Arm false) 256 input out
-  image_carries = carries private input out code image.code_address image.words blocks is_laid is_image_of (no_fault input elf code read is)
+  pub image_carries : IsCarried (marked private) input out code image.code_address image.words
+  image_carries = carried private input out code image.code_address image.words blocks is_laid is_image_of (no_fault input elf code clear read is)
+
+  -- and its runs follow the plan
+  pub image_follows : EachFollowsPlan (marked private) input out code image.code_address image.words
+  image_follows = each_follows_plan private input out code image.code_address image.words blocks is_laid

@@ -19,4 +19,8 @@ pub mod PassedBlocks
 pub mod Ended
 pub mod Closed
 pub mod Imaged
+pub mod Apart
 pub mod Sizes
+pub mod FewSlots
+pub mod BlockCounts
+pub mod PlannedBlocks

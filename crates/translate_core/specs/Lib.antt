@@ -1,1 +1,3 @@
 pub mod Passed
+pub mod Planned
+pub mod Translated

@@ -46,7 +46,7 @@ fn pass_block(
 }
 
 /// How many blocks the code has, where 32 bits number them.
-fn count_of(code: &Code) -> Result<u32, NoMemory>
+pub(crate) fn count_of(code: &Code) -> Result<u32, NoMemory>
     ensures { IfOk result (λ count. count ≡ length code.now.blocks) }
 {
     u32::try_from(code.blocks.as_slice().len())

@@ -1,4 +1,0 @@
-pub mod CodeLemmas
-pub mod LineLemmas
-pub mod LinesLemmas
-pub mod CallerLemmas

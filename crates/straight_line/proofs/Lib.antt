@@ -1,9 +1,0 @@
-pub mod Rows
-pub mod LineUnfolds
-pub mod LineMakes
-pub mod Passes
-pub mod Endings
-pub mod GuardedRuns
-pub mod LineCarried
-pub mod Straight
-pub mod Translates
