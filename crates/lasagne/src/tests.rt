@@ -9,9 +9,9 @@ use std::test::Fail;
 const LEAST_LINE: &[u8] =
     b"translated 1 threads, 1 instructions, 1 blocks, 1 accesses, 0 private, 1 frm, 0 fww, 0 fsc\n";
 
-/// Parts of the least file's image: the program headers, of 401000 with flag R, of 404000 with R and W, and of eleven
-/// words of code at 410000 with X alone; and the words: mov x16, x4; ldr x16, [x16]; dmb ishld; mov x17, x4;
-/// mov x23, #8; add x17, x17, x23; mov x4, x17; mov x16, x16; cbz x16, +2; brk #3; svc #3.
+/// Parts of the least file's image: the program headers, of 401000 with flag R, of 404000 with R and W, and of twelve
+/// words of code at 410000 with X alone; and the words, of the block: mov x16, x4; ldr x16, [x16]; mov x17, x4;
+/// mov x23, #8; add x17, x17, x23; mov x4, x17; dmb ishld; mov x16, x16; b +1; and of all returns: cbnz x16, +2; svc #3; brk #3.
 const IMAGE: [(usize, &[u8]); 4] = [
     (
         64,
@@ -23,11 +23,11 @@ const IMAGE: [(usize, &[u8]); 4] = [
     ),
     (
         176,
-        b"\x01\0\0\0\x01\0\0\0\0\x30\0\0\0\0\0\0\0\0\x41\0\0\0\0\0\0\0\x41\0\0\0\0\0\x2C\0\0\0\0\0\0\0\x2C\0\0\0\0\0\0\0\0\x10\0\0\0\0\0\0",
+        b"\x01\0\0\0\x01\0\0\0\0\x30\0\0\0\0\0\0\0\0\x41\0\0\0\0\0\0\0\x41\0\0\0\0\0\x30\0\0\0\0\0\0\0\x30\0\0\0\0\0\0\0\0\x10\0\0\0\0\0\0",
     ),
     (
         0x3000,
-        b"\xF0\x03\x04\xAA\x10\x02\x40\xF9\xBF\x39\x03\xD5\xF1\x03\x04\xAA\x17\x01\x80\xD2\x31\x02\x17\x8B\xE4\x03\x11\xAA\xF0\x03\x10\xAA\x50\0\0\xB4\x60\0\x20\xD4\x61\0\0\xD4",
+        b"\xF0\x03\x04\xAA\x10\x02\x40\xF9\xF1\x03\x04\xAA\x17\x01\x80\xD2\x31\x02\x17\x8B\xE4\x03\x11\xAA\xBF\x39\x03\xD5\xF0\x03\x10\xAA\x01\0\0\x14\x50\0\0\xB5\x61\0\0\xD4\x60\0\x20\xD4",
     ),
 ];
 
@@ -202,29 +202,144 @@ fn threads_share_an_address(rt: HostRuntime) -> Result<(), Fail> {
     Ok(())
 }
 
+/// Code at 401000, the listed symbols, and what is told.
+type Case = (&'static [u8], &'static [(&'static str, u64)], &'static [u8]);
+
+const ONE_THREAD: &[(&str, u64)] = &[("thread_0", 0x401000)];
+
+#[test]
+fn programs_are_translated(rt: HostRuntime) -> Result<(), Fail> {
+    let alloc = rt.alloc();
+    let cases: [Case; 11] = [
+        // push rbx; call f; pop rbx; ret; f: ret
+        (
+            b"\x53\xE8\x02\0\0\0\x5B\xC3\xC3",
+            ONE_THREAD,
+            b"translated 1 threads, 5 instructions, 3 blocks, 5 accesses, 0 private, 3 frm, 2 fww, 0 fsc\n",
+        ),
+        // the same with an argument that points into the frame: lea rdi, [rsp + 8]
+        (
+            b"\x53\x48\x8D\x7C\x24\x08\xE8\x02\0\0\0\x5B\xC3\xC3",
+            ONE_THREAD,
+            b"translated 1 threads, 6 instructions, 3 blocks, 5 accesses, 0 private, 3 frm, 2 fww, 0 fsc\n",
+        ),
+        // f overwrites its return address: call f; ret; f: mov qword [rsp], 5; ret
+        (
+            b"\xE8\x01\0\0\0\xC3\x48\xC7\x04\x24\x05\0\0\0\xC3",
+            ONE_THREAD,
+            b"translated 1 threads, 4 instructions, 3 blocks, 4 accesses, 0 private, 2 frm, 2 fww, 0 fsc\n",
+        ),
+        // a listed call and a listed jump: call input; mov rdi, rax; jmp output
+        (
+            b"\xE8\x08\0\0\0\x48\x89\xC7\xE9\x01\0\0\0\xC3\xC3",
+            &[
+                ("thread_0", 0x401000),
+                ("lsg_input", 0x40100D),
+                ("lsg_output", 0x40100E),
+            ],
+            b"translated 1 threads, 3 instructions, 2 blocks, 2 accesses, 0 private, 1 frm, 1 fww, 0 fsc\n",
+        ),
+        // a loop: mov ecx, 3; again: dec rcx; jne again; ret
+        (
+            b"\xB9\x03\0\0\0\x48\xFF\xC9\x75\xFB\xC3",
+            ONE_THREAD,
+            b"translated 1 threads, 4 instructions, 3 blocks, 1 accesses, 0 private, 1 frm, 0 fww, 0 fsc\n",
+        ),
+        // a loop without an end, and so no return site: jmp 401000
+        (
+            b"\xEB\xFE",
+            ONE_THREAD,
+            b"translated 1 threads, 1 instructions, 1 blocks, 0 accesses, 0 private, 0 frm, 0 fww, 0 fsc\n",
+        ),
+        // calls in calls: call f; ret; f: call g; ret; g: ret
+        (
+            b"\xE8\x01\0\0\0\xC3\xE8\x01\0\0\0\xC3\xC3",
+            ONE_THREAD,
+            b"translated 1 threads, 5 instructions, 5 blocks, 5 accesses, 0 private, 3 frm, 2 fww, 0 fsc\n",
+        ),
+        // recursion: call 401000; ret
+        (
+            b"\xE8\xFB\xFF\xFF\xFF\xC3",
+            ONE_THREAD,
+            b"translated 1 threads, 2 instructions, 2 blocks, 2 accesses, 0 private, 1 frm, 1 fww, 0 fsc\n",
+        ),
+        // a tail jump: call f; ret; (not reached); f: jmp g; (not reached); g: ret
+        (
+            b"\xE8\x02\0\0\0\xC3\xCC\xEB\x01\xCC\xC3",
+            ONE_THREAD,
+            b"translated 1 threads, 4 instructions, 4 blocks, 3 accesses, 0 private, 2 frm, 1 fww, 0 fsc\n",
+        ),
+        // two threads call one function, and a third begins with it
+        (
+            b"\xE8\x07\0\0\0\xC3\xE8\x01\0\0\0\xC3\xC3",
+            &[
+                ("thread_0", 0x401000),
+                ("thread_1", 0x401006),
+                ("thread_2", 0x40100C),
+            ],
+            b"translated 3 threads, 5 instructions, 5 blocks, 5 accesses, 0 private, 3 frm, 2 fww, 0 fsc\n",
+        ),
+        // fourteen prefixes: as long as an instruction may be
+        (
+            b"\x66\x66\x66\x66\x66\x66\x66\x66\x66\x66\x66\x66\x66\x66\x90\xC3",
+            ONE_THREAD,
+            b"translated 1 threads, 2 instructions, 1 blocks, 1 accesses, 0 private, 1 frm, 0 fww, 0 fsc\n",
+        ),
+    ];
+    for (code, listed, line) in cases {
+        let told = translated(alloc, file_of(alloc, code, listed)?)?;
+        assert_eq!(rt; told.taken.as_slice(), line);
+        assert_eq!(rt; told.status, Status::Done);
+    }
+    Ok(())
+}
+
 #[test]
 fn other_files_are_refused(rt: HostRuntime) -> Result<(), Fail> {
     let alloc = rt.alloc();
-    let one: &[(&str, u64)] = &[("thread_0", 0x401000)];
-    let cases: [(&[u8], &[(&str, u64)], &[u8]); 8] = [
-        (b"\xFF\xE0", one, b"refused UnbuiltCode 401000\n"),
+    let cases: [Case; 12] = [
+        // jmp rax
+        (b"\xFF\xE0", ONE_THREAD, b"refused UnbuiltCode 401000\n"),
+        // mov rcx, rdx; mul ecx; ret
         (
             b"\x48\x89\xD1\xF7\xE1\xC3",
-            one,
+            ONE_THREAD,
             b"refused UnbuiltCode 401003\n",
         ),
-        (b"\x48\x89\xD1", one, b"refused UnbuiltCode 401003\n"),
-        (b"\xBF\0\x40\x40", one, b"refused UnbuiltCode 401000\n"),
-        // the second thread begins within the first instruction of the first, and its line meets the first's
+        (
+            b"\x48\x89\xD1",
+            ONE_THREAD,
+            b"refused BadCode 401003 Outside\n",
+        ),
+        (
+            b"\xBF\0\x40\x40",
+            ONE_THREAD,
+            b"refused BadCode 401000 Cut\n",
+        ),
+        (b"\x06\xC3", ONE_THREAD, b"refused BadCode 401000 Unknown\n"),
+        (
+            b"\x66\x66\x66\x66\x66\x66\x66\x66\x66\x66\x66\x66\x66\x66\x66\x90\xC3",
+            ONE_THREAD,
+            b"refused BadCode 401000 TooLong\n",
+        ),
+        // jmp 404000
+        (
+            b"\xE9\xFB\x2F\0\0",
+            ONE_THREAD,
+            b"refused BadCode 404000 Outside\n",
+        ),
+        // jmp 401001, into itself
+        (b"\xEB\xFF\xC0\xC3", ONE_THREAD, b"refused Overlap 401001\n"),
+        // the second thread begins within the first instruction of the first
         (
             b"\x48\xB8\xC3\0\0\0\0\0\0\0\xC3",
             &[("thread_0", 0x401000), ("thread_1", 0x401002)],
-            b"refused UnbuiltCode 401002\n",
+            b"refused Overlap 401002\n",
         ),
         (
             b"\xC3",
             &[("thread_0", 0x401000), ("lsg_input", 0x401000)],
-            b"refused UnbuiltCode 401000\n",
+            b"refused BadCode 401000 Listed\n",
         ),
         (b"\xC3", &[("thread_1", 0x401000)], b"refused NoThread\n"),
         (
@@ -235,10 +350,38 @@ fn other_files_are_refused(rt: HostRuntime) -> Result<(), Fail> {
     ];
     for (code, listed, line) in cases {
         let told = translated(alloc, file_of(alloc, code, listed)?)?;
-        assert_eq!(rt; told.status, Status::Refused);
         assert_eq!(rt; told.taken.as_slice(), line);
+        assert_eq!(rt; told.status, Status::Refused);
         assert!(rt; !told.put);
     }
+    Ok(())
+}
+
+/// A file of so many NOPs and a return behind them, with its cells at 800000.
+fn long_file(alloc: Global, nops: usize) -> Result<Vec<u8>, Fail> {
+    if nops > 0x1_0000 {
+        return Err("too much for a test".into());
+    }
+    let mut code = vec![in alloc; 0x90; nops]?;
+    code.push(0xC3)?;
+    let symbols = [Symbol {
+        name: List::of(Vec::from_slice(alloc, b"thread_0")?),
+        address: 0x401000,
+    }];
+    Ok(build(alloc, &code, &[0; 64], 0x800000, &symbols)?)
+}
+
+#[test]
+fn as_much_code_as_may_be_is_translated(rt: HostRuntime) -> Result<(), Fail> {
+    let alloc = rt.alloc();
+    let most = translated(alloc, long_file(alloc, 0xFFFF)?)?;
+    assert_eq!(rt;
+        most.taken.as_slice(),
+        b"translated 1 threads, 65536 instructions, 1 blocks, 1 accesses, 0 private, 1 frm, 0 fww, 0 fsc\n".as_slice()
+    );
+    let more = translated(alloc, long_file(alloc, 0x1_0000)?)?;
+    assert_eq!(rt; more.taken.as_slice(), b"refused TooMuchCode\n".as_slice());
+    assert!(rt; !more.put);
     Ok(())
 }
 

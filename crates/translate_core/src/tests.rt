@@ -3,12 +3,14 @@ ghost use Rattle.elf_read.specs.Elf.{IsProgram, parts_of};
 ghost use Rattle.fence_place.specs.Marked.{IsSorted};
 ghost use Rattle.lift.specs.Recovered.{IsRecovered};
 
-use crate::pass_blocks;
+use crate::{pass_blocks, translate};
 use a64_block::ABlock;
 use a64_code::{A64, XReg};
+use carry_spec::Summary;
 use cfg_walk::{Code, recover};
 use elf_read::{Elf, read_elf};
 use ev_graph::List as Seq;
+use fence_plan::Gap;
 use gen_input::{Symbol, build};
 use std::alloc::Global;
 use std::test::Fail;
@@ -29,6 +31,75 @@ fn program(alloc: Global, code: &[u8]) -> Result<Elf, Fail>
     let file = build(alloc, code, &[0; 64], 0x800000, &symbols).map_err(|_| "not built")?;
     let elf = read_elf(alloc, &file).map_err(|_| "refused")?;
     Ok(elf)
+}
+
+/// Store buffering: two threads, at 401000 and 401016, that each write one cell and read the other's.
+const STORE_BUFFERING: &[u8] =
+    b"\xBF\0\x40\x40\0\xBE\x08\x40\x40\0\xB8\x01\0\0\0\x48\x89\x07\x48\x8B\x06\xC3\
+    \xBF\x08\x40\x40\0\xBE\0\x40\x40\0\xB8\x01\0\0\0\x48\x89\x07\x48\x8B\x06\xC3";
+
+/// The file of store buffering.
+fn store_buffering(alloc: Global) -> Result<Vec<u8>, Fail> {
+    let symbols = [
+        Symbol {
+            name: Seq::of(Vec::from_slice(alloc, b"thread_0")?),
+            address: 0x401000,
+        },
+        Symbol {
+            name: Seq::of(Vec::from_slice(alloc, b"thread_1")?),
+            address: 0x401016,
+        },
+    ];
+    let file = build(alloc, STORE_BUFFERING, &[0; 64], 0x404000, &symbols).map_err(
+        |_| "not built",
+    )?;
+    Ok(file)
+}
+
+const NO_FENCE: Gap = Gap {
+    frm: false,
+    fww: false,
+    fsc: false,
+};
+
+#[test]
+fn store_buffering_is_translated(rt: HostRuntime) -> Result<(), Fail> {
+    let alloc = rt.alloc();
+    let file = store_buffering(alloc)?;
+    let made = translate(alloc, &file).map_err(|_| "refused")?;
+    let plan = made.plan.as_slice().get(1).ok_or("no second block")?;
+    let slots = [
+        (0x401025, SlotKind::Write),
+        (0x401028, SlotKind::Read),
+        (0x40102B, SlotKind::Read),
+    ]
+    .map(|(address, kind)| Slot { address, kind });
+    let frm = Gap {
+        frm: true,
+        ..NO_FENCE
+    };
+    let fww = Gap {
+        fww: true,
+        ..NO_FENCE
+    };
+    assert_eq!(rt; made.plan.as_slice().len(), 2);
+    assert_eq!(rt; plan.first, 0x401016);
+    assert!(rt; plan.slots.as_slice() == slots.as_slice());
+    assert!(rt; plan.gaps.as_slice() == [fww, NO_FENCE, frm, frm].as_slice());
+    assert!(rt;
+        made.summary
+            == Summary {
+                threads: 2,
+                instructions: 12,
+                blocks: 2,
+                accesses: 6,
+                private: 0,
+                frm: 4,
+                fww: 2,
+                fsc: 0,
+            }
+    );
+    Ok(())
 }
 
 /// The code of a program that is accepted.
