@@ -1,10 +1,11 @@
-// Runs the code of images in place of a host, for scripts/run-images.
+// Runs the code of images in place of a host, for scripts/run-images and scripts/run-programs.
 //
-//     image-host CODE WINDOW
+//     image-host CODE WINDOW CELLS
 //
-// Each line of standard input is a case, in hexadecimal: how many words the code has and these words, X0 to X15, X19 to X22 and the
-// eight cells of memory at WINDOW. The code is put at CODE, where it begins. For each case a line is printed: the number of
-// the break at which the code stopped, or "fault" where it touched memory that is not there, and the same registers and cells.
+// Each line of standard input is a case, in hexadecimal: how many words stand before the thread's first, how many words the code
+// has and these words, X0 to X15, X19 to X22 and the first CELLS cells of 8 bytes of memory at WINDOW; the others are 0. The code
+// is put at CODE. For each case a line is printed: the number of the break at which the code stopped, or "fault" where it touched
+// memory that is not there, and the same registers and cells.
 #include <inttypes.h>
 #include <setjmp.h>
 #include <signal.h>
@@ -14,7 +15,7 @@
 #include <sys/mman.h>
 #include <ucontext.h>
 
-enum { REGISTERS = 20, CELLS = 8, CODE_SIZE = 0x10000, WINDOW_SIZE = 0x1000 };
+enum { REGISTERS = 20, CODE_SIZE = 0x80000, WINDOW_SIZE = 0x1000 };
 
 // X0 to X15 and X19 to X22 get their values, and control goes to the code
 void enter(const uint64_t *registers, const void *code);
@@ -62,7 +63,9 @@ static uint64_t next(void) {
 }
 
 int main(int count, char **words) {
-  if (count != 3) return 2;
+  if (count != 4) return 2;
+  const uint64_t cells = strtoull(words[3], NULL, 16);
+  if (cells > WINDOW_SIZE / 8) return 2;
   uint32_t *code = area(words[1], CODE_SIZE, PROT_READ | PROT_WRITE | PROT_EXEC);
   uint64_t *window = area(words[2], WINDOW_SIZE, PROT_READ | PROT_WRITE);
   struct sigaction action = {.sa_sigaction = on_signal, .sa_flags = SA_SIGINFO};
@@ -70,18 +73,18 @@ int main(int count, char **words) {
   sigaction(SIGSEGV, &action, NULL);
   sigaction(SIGBUS, &action, NULL);
   for (;;) {
-    uint64_t size = next();
-    if (size > CODE_SIZE / 4) return 2;
+    uint64_t first = next(), size = next();
+    if (size > CODE_SIZE / 4 || first >= size) return 2;
     for (uint64_t n = 0; n < size; n++) code[n] = next();
     for (int n = 0; n < REGISTERS; n++) registers[n] = next();
     memset(window, 0, WINDOW_SIZE);
-    for (int n = 0; n < CELLS; n++) window[n] = next();
+    for (uint64_t n = 0; n < cells; n++) window[n] = next();
     __builtin___clear_cache((char *)code, (char *)(code + size));
-    if (sigsetjmp(stopped, 1) == 0) enter(registers, code);
+    if (sigsetjmp(stopped, 1) == 0) enter(registers, code + first);
     if (stop < 0) printf("fault");
     else printf("%" PRIx64, (uint64_t)stop);
     for (int n = 0; n < REGISTERS; n++) printf(" %" PRIx64, registers[n]);
-    for (int n = 0; n < CELLS; n++) printf(" %" PRIx64, window[n]);
+    for (uint64_t n = 0; n < cells; n++) printf(" %" PRIx64, window[n]);
     printf("\n");
   }
 }
