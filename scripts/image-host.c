@@ -5,7 +5,7 @@
 // Each line of standard input is a case, in hexadecimal: how many words stand before the thread's first, how many words the code
 // has and these words, X0 to X15, X19 to X22 and the first CELLS cells of 8 bytes of memory at WINDOW; the others are 0. The code
 // is put at CODE. For each case a line is printed: the number of the break at which the code stopped, or "fault" where it touched
-// memory that is not there, and the same registers and cells.
+// memory that is not there or ran for LONGEST seconds, and the same registers and cells.
 #include <inttypes.h>
 #include <setjmp.h>
 #include <signal.h>
@@ -14,8 +14,9 @@
 #include <string.h>
 #include <sys/mman.h>
 #include <ucontext.h>
+#include <unistd.h>
 
-enum { REGISTERS = 20, CODE_SIZE = 0x80000, WINDOW_SIZE = 0x1000 };
+enum { REGISTERS = 20, CODE_SIZE = 0x80000, WINDOW_SIZE = 0x1000, LONGEST = 10 };
 
 // X0 to X15 and X19 to X22 get their values, and control goes to the code
 void enter(const uint64_t *registers, const void *code);
@@ -72,6 +73,7 @@ int main(int count, char **words) {
   sigaction(SIGTRAP, &action, NULL);
   sigaction(SIGSEGV, &action, NULL);
   sigaction(SIGBUS, &action, NULL);
+  sigaction(SIGALRM, &action, NULL);
   for (;;) {
     uint64_t first = next(), size = next();
     if (size > CODE_SIZE / 4 || first >= size) return 2;
@@ -80,7 +82,11 @@ int main(int count, char **words) {
     memset(window, 0, WINDOW_SIZE);
     for (uint64_t n = 0; n < cells; n++) window[n] = next();
     __builtin___clear_cache((char *)code, (char *)(code + size));
-    if (sigsetjmp(stopped, 1) == 0) enter(registers, code + first);
+    if (sigsetjmp(stopped, 1) == 0) {
+      alarm(LONGEST);
+      enter(registers, code + first);
+    }
+    alarm(0);
     if (stop < 0) printf("fault");
     else printf("%" PRIx64, (uint64_t)stop);
     for (int n = 0; n < REGISTERS; n++) printf(" %" PRIx64, registers[n]);
