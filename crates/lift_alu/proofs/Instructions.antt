@@ -40,7 +40,7 @@ same_elsewhere s i at same = record { regs = same.regs; fit = same.fit; cf = sam
 pub has_flags : (s : Thread) (i : IrState) → SameThread s i → HasFlags s.flags i
 has_flags s i same = record { cf = same.cf; zf = same.zf; sf = same.sf; of = same.of }
 
--- what is built so far is not locked
+-- an instruction that is lifted is not locked
 pub not_locked : {A : Type 0} (locked : Bool) → not locked ≡ true → locked ≡ true → A
 not_locked true built is = cc
 not_locked false built is = cc

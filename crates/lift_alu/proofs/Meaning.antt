@@ -1,5 +1,5 @@
 -- The steps of an instruction do what its row does.
-use Rattle.std.proofs.Common.{◌≡◌, ℕ, ◌+◌, ◌%◌, ◌^◌, ◌<◌, true, false, [], refl, subst, arith}
+use Rattle.std.proofs.Common.{◌≡◌, ℕ, ◌+◌, ◌%◌, ◌^◌, ◌<◌, true, [], refl, subst, arith}
 use Rattle.behavior.specs.Tree.{◌then◌}
 use Rattle.behavior.specs.Acts.{Permission}
 use Rattle.behavior.specs.Leaving.{SameLeft}
@@ -18,70 +18,50 @@ use Rattle.x64_table.specs.State.{Thread}
 use Rattle.limm_ir.specs.Costs.{no_cost}
 use Rattle.limm_ir.specs.Steps.{IrState}
 use Rattle.limm_ir.specs.Blocks.{ir_block}
-use Rattle.lift_alu.specs.Built.{is_built, is_lifted}
+use Rattle.lift_alu.specs.Built.{is_lifted}
 use Rattle.lift_alu.specs.Lifted.{lifts_with}
 use Rattle.lift_alu.specs.Meant.{SameThread, after, end_from, end_of}
-use Rattle.lift_alu.proofs.Instructions.{same_elsewhere, Means, MeansWith}
+use Rattle.lift_alu.proofs.Instructions.{same_elsewhere, MeansWith}
 use Rattle.lift_alu.proofs.LiftedMoves.{mov_means, lea_means, movzx_means, movsx_means, movsxd_means, setcc_means, cmovcc_means, widen_means, signfill_means, xchg_means}
 use Rattle.lift_alu.proofs.LiftedStack.{push_means, pop_means, leave_means, ret_means, nop_means, pause_means, endbr_means, mfence_means, ud2_means}
 use Rattle.lift_alu.proofs.LiftedCalls.{call_means, jmp_means, jcc_means}
 use Rattle.lift_alu.proofs.LiftedArithmetic.{alu_means, test_means}
 use Rattle.lift_alu.proofs.LiftedSteps.{inc_means, dec_means, neg_means, not_means, xadd_means}
 
--- what isn't built so far is not lifted
-not_built : {A : Type 0} → false ≡ true → A
-not_built is = cc
-
 module _ (may : Permission) (table place next temps : ℕ) (fits : next < 2 ^ 64) where
-  -- the steps of each instruction that is built so far do what its row does
-  each_means : (i : Instr) → IsFormed i → is_built i ≡ true → Means may table place next temps i
-  each_means (instr.Alu o w to from locked) formed built = alu_means may table place next temps fits o w to from locked built formed.0
-  each_means (instr.Test w to from) formed built = test_means may table place next temps fits w to from formed
-  each_means (instr.Xchg w to from locked) formed built = xchg_means may table place next temps fits w to from locked built formed
-  each_means (instr.Mov w to from) formed built = mov_means may table place next temps fits w to from formed
-  each_means (instr.Lea w to from) formed built = lea_means may table place next temps fits w to from formed
-  each_means (instr.MovZx w v to from) formed built = movzx_means may table place next temps fits w v to from formed
-  each_means (instr.MovSx w v to from) formed built = movsx_means may table place next temps fits w v to from formed
-  each_means (instr.MovSxd to from) formed built = movsxd_means may table place next temps fits to from formed
-  each_means (instr.Push from) formed built = push_means may table place next temps fits from formed
-  each_means (instr.Pop to) formed built = pop_means may table place next temps fits to formed
-  each_means instr.Leave formed built = leave_means may table place next temps fits
-  each_means instr.Ret formed built = ret_means may table place next temps fits
-  each_means (instr.SetCc c to) formed built = setcc_means may table place next temps fits c to formed
-  each_means (instr.CmovCc c w to from) formed built = cmovcc_means may table place next temps fits c w to from formed
-  each_means (instr.Inc w to locked) formed built = inc_means may table place next temps fits w to locked built formed.0
-  each_means (instr.Dec w to locked) formed built = dec_means may table place next temps fits w to locked built formed.0
-  each_means (instr.Not w to locked) formed built = not_means may table place next temps fits w to locked built formed.0
-  each_means (instr.Neg w to) formed built = neg_means may table place next temps fits w to formed
-  each_means (instr.Xadd w to from locked) formed built = xadd_means may table place next temps fits w to from locked built formed
-  each_means (instr.Widen w) formed built = widen_means may table place next temps fits w
-  each_means (instr.SignFill w) formed built = signfill_means may table place next temps fits w formed
-  each_means instr.Nop formed built = nop_means may table place next temps fits
-  each_means instr.Pause formed built = pause_means may table place next temps fits
-  each_means instr.Endbr formed built = endbr_means may table place next temps fits
-  each_means instr.Mfence formed built = mfence_means may table place next temps fits
-  each_means instr.Ud2 formed built = ud2_means may table place next temps fits
-  each_means (instr.Call d) formed built = not_built built
-  each_means (instr.Jmp d) formed built = not_built built
-  each_means (instr.CallInd to) formed built = not_built built
-  each_means (instr.JmpInd to) formed built = not_built built
-  each_means (instr.Jcc c d) formed built = not_built built
-  each_means (instr.Mul w from) formed built = not_built built
-  each_means (instr.ImulOne w from) formed built = not_built built
-  each_means (instr.Div w from) formed built = not_built built
-  each_means (instr.Idiv w from) formed built = not_built built
-  each_means (instr.ImulTwo w to from) formed built = not_built built
-  each_means (instr.ImulThree w to from by) formed built = not_built built
-  each_means (instr.Shift o w to by) formed built = not_built built
-  each_means (instr.Cmpxchg w to from locked) formed built = not_built built
-
-  -- and so do those of each that is lifted, with its flow
+  -- the steps of each instruction that is lifted, with its flow, do what its row does
   each_with : (f : Flow) (i : Instr) → IsFormed i → is_lifted i ≡ true → IsFlowOf i f → MeansWith may table place next temps f i
   unfolding lifts_with
+  each_with f (instr.Alu o w to from locked) formed lifted flows = alu_means may table place next temps fits o w to from locked lifted formed.0 f
+  each_with f (instr.Test w to from) formed lifted flows = test_means may table place next temps fits w to from formed f
+  each_with f (instr.Xchg w to from locked) formed lifted flows = xchg_means may table place next temps fits w to from locked lifted formed f
+  each_with f (instr.Mov w to from) formed lifted flows = mov_means may table place next temps fits w to from formed f
+  each_with f (instr.Lea w to from) formed lifted flows = lea_means may table place next temps fits w to from formed f
+  each_with f (instr.MovZx w v to from) formed lifted flows = movzx_means may table place next temps fits w v to from formed f
+  each_with f (instr.MovSx w v to from) formed lifted flows = movsx_means may table place next temps fits w v to from formed f
+  each_with f (instr.MovSxd to from) formed lifted flows = movsxd_means may table place next temps fits to from formed f
+  each_with f (instr.Push from) formed lifted flows = push_means may table place next temps fits from formed f
+  each_with f (instr.Pop to) formed lifted flows = pop_means may table place next temps fits to formed f
+  each_with f instr.Leave formed lifted flows = leave_means may table place next temps fits f
+  each_with f instr.Ret formed lifted flows = ret_means may table place next temps fits f
   each_with f (instr.Call d) formed lifted flows = call_means may table place next temps fits f d flows
   each_with f (instr.Jmp d) formed lifted flows = jmp_means may table place next temps fits f d flows
   each_with f (instr.Jcc c d) formed lifted flows = jcc_means may table place next temps fits f c d formed.0
-  each_with f i formed lifted flows = each_means i formed lifted f
+  each_with f (instr.SetCc c to) formed lifted flows = setcc_means may table place next temps fits c to formed f
+  each_with f (instr.CmovCc c w to from) formed lifted flows = cmovcc_means may table place next temps fits c w to from formed f
+  each_with f (instr.Inc w to locked) formed lifted flows = inc_means may table place next temps fits w to locked lifted formed.0 f
+  each_with f (instr.Dec w to locked) formed lifted flows = dec_means may table place next temps fits w to locked lifted formed.0 f
+  each_with f (instr.Not w to locked) formed lifted flows = not_means may table place next temps fits w to locked lifted formed.0 f
+  each_with f (instr.Neg w to) formed lifted flows = neg_means may table place next temps fits w to formed f
+  each_with f (instr.Xadd w to from locked) formed lifted flows = xadd_means may table place next temps fits w to from locked lifted formed f
+  each_with f (instr.Widen w) formed lifted flows = widen_means may table place next temps fits w f
+  each_with f (instr.SignFill w) formed lifted flows = signfill_means may table place next temps fits w formed f
+  each_with f instr.Nop formed lifted flows = nop_means may table place next temps fits f
+  each_with f instr.Pause formed lifted flows = pause_means may table place next temps fits f
+  each_with f instr.Endbr formed lifted flows = endbr_means may table place next temps fits f
+  each_with f instr.Mfence formed lifted flows = mfence_means may table place next temps fits f
+  each_with f instr.Ud2 formed lifted flows = ud2_means may table place next temps fits f
+  each_with f i formed lifted flows = absurd cc
 
 -- an address that is cut fits
 cut_fits : (a : ℕ) → a % 2 ^ 64 < 2 ^ 64

@@ -21,7 +21,7 @@ use Rattle.limm_ir.specs.declared.block.IrEnd.{IrEnd}
 use Rattle.limm_ir.specs.declared.block.IrEnd.TheVariants as ends
 use Rattle.limm_ir.specs.declared.step.IrOp.{IrOp}
 use Rattle.limm_ir.specs.declared.step.IrOp.TheVariants as ops
-use Rattle.lift_alu.specs.Built.{is_built, is_lifted}
+use Rattle.lift_alu.specs.Built.{is_lifted}
 use Rattle.lift_alu.specs.Formulas.{Formula, Kept, Number, Register, Operation, Choice, Lifting, done, temp, place, keeps, sets_register}
 use Rattle.lift_alu.specs.Operands.{clean, with_sign, register_formula}
 use Rattle.lift_alu.specs.Flags.{top, sum_overflow, difference_overflow, borrow, sets_result, sets_flags, condition_formula}
@@ -341,47 +341,51 @@ condition_tame code temps goal next =
     let e = condition_formula code in
     keeps_at (ends.Branch (temp (place temps e)) goal next) e (condition_within [] code) (omega arith) 61 54 (λ v. done) temps (omega arith) (ended (inl refl, tt) tt)
 
--- each instruction that is built
-lifts_tame : (at after next_address temps : ℕ) (f : Flow) (i : Instr) → IsFormed i → is_built i ≡ true → Tame (end_from i f next_address temps) [] temps 62 (lifts at after i temps)
-unfolding lifts pops
-lifts_tame at after next temps f (instr.Alu o w to from locked) formed built = let is = reached_pair w to from formed.0 in alu_tame at after next o w to from is.0 is.1 temps
-lifts_tame at after next temps f (instr.Test w to from) formed built = let is = reached_pair w to from formed in compares_tame at after next op.And w to from is.0 is.1 temps
-lifts_tame at after next temps f (instr.Xchg w to from locked) formed built = exchanges_tame at after next w to from (reached_stored w to formed.0) (reached_register w from formed.1.0) temps
-lifts_tame at after next temps f (instr.Mov w to from) formed built = let is = reached_pair w to from formed in copies_tame at after next w to from is.0 is.1 temps
-lifts_tame at after next temps f (instr.Lea w to from) formed built = address_tame at after next w to from (reached_register w to formed.1.0) formed.1.1 temps
-lifts_tame at after next temps f (instr.MovZx w v to from) formed built = extends_tame at after next w v to from (reached_register w to formed.1.1.0) (reached_stored v from formed.1.1.1) temps
-lifts_tame at after next temps f (instr.MovSx w v to from) formed built = signed_tame at after next w v to from (reached_register w to formed.1.1.0) (reached_stored v from formed.1.1.1) temps
-lifts_tame at after next temps f (instr.MovSxd to from) formed built =
-    sign_extends_tame at after next to from (reached_register width.Quad to formed.0) (reached_stored width.Long from formed.1) temps
-lifts_tame at after next temps f (instr.Push from) formed built = pushes_tame at after next from (reached_pushed from formed) temps
-lifts_tame at after next temps f (instr.Pop to) formed built = pop_tame at after next to (reached_stored width.Quad to formed) temps
-lifts_tame at after next temps f instr.Leave formed built = leave_tame at after next temps
-lifts_tame at after next temps f instr.Ret formed built = tame_more (omega arith) (return_tame at after temps)
-lifts_tame at after next temps f (instr.SetCc c to) formed built = sets_condition_tame at after next c.code to (reached_stored width.Byte to formed.1) temps
-lifts_tame at after next temps f (instr.CmovCc c w to from) formed built =
-    chooses_tame at after next c.code w to from (reached_register w to formed.1.1.0) (reached_stored w from formed.1.1.1) temps
-lifts_tame at after next temps f (instr.Inc w to locked) formed built = increases_tame at after next w to (reached_stored w to formed.0) temps
-lifts_tame at after next temps f (instr.Dec w to locked) formed built = decreases_tame at after next w to (reached_stored w to formed.0) temps
-lifts_tame at after next temps f (instr.Not w to locked) formed built = turns_tame at after next w to (reached_stored w to formed.0) temps
-lifts_tame at after next temps f (instr.Neg w to) formed built = negates_tame at after next w to (reached_stored w to formed) temps
-lifts_tame at after next temps f (instr.Xadd w to from locked) formed built = adds_exchanged_tame at after next w to from (reached_stored w to formed.0) formed.1.0 temps
-lifts_tame at after next temps f (instr.Widen w) formed built = widens_tame at after next w temps
-lifts_tame at after next temps f (instr.SignFill w) formed built = fills_tame at after next w temps
-lifts_tame at after next temps f instr.Nop formed built = ended tt tt
-lifts_tame at after next temps f instr.Pause formed built = ended tt tt
-lifts_tame at after next temps f instr.Endbr formed built = ended tt tt
-lifts_tame at after next temps f instr.Mfence formed built = fences_tame at after next temps
-lifts_tame at after next temps f instr.Ud2 formed built = ended tt (λ same. absurd cc)
-lifts_tame at after next temps f i formed built = absurd cc
-
 -- each instruction that is lifted, with its flow
 lifts_with_tame : (at after next_address temps : ℕ) (f : Flow) (i : Instr) → IsFormed i → is_lifted i ≡ true → IsFlowOf i f
     → Tame (end_from i f next_address temps) [] temps (words_of i) (lifts_with at after f i temps)
-unfolding lifts_with
+unfolding lifts lifts_with pops
+lifts_with_tame at after next temps f (instr.Alu o w to from locked) formed lifted flows =
+    let is = reached_pair w to from formed.0 in alu_tame at after next o w to from is.0 is.1 temps
+lifts_with_tame at after next temps f (instr.Test w to from) formed lifted flows =
+    let is = reached_pair w to from formed in compares_tame at after next op.And w to from is.0 is.1 temps
+lifts_with_tame at after next temps f (instr.Xchg w to from locked) formed lifted flows =
+    exchanges_tame at after next w to from (reached_stored w to formed.0) (reached_register w from formed.1.0) temps
+lifts_with_tame at after next temps f (instr.Mov w to from) formed lifted flows =
+    let is = reached_pair w to from formed in copies_tame at after next w to from is.0 is.1 temps
+lifts_with_tame at after next temps f (instr.Lea w to from) formed lifted flows =
+    address_tame at after next w to from (reached_register w to formed.1.0) formed.1.1 temps
+lifts_with_tame at after next temps f (instr.MovZx w v to from) formed lifted flows =
+    extends_tame at after next w v to from (reached_register w to formed.1.1.0) (reached_stored v from formed.1.1.1) temps
+lifts_with_tame at after next temps f (instr.MovSx w v to from) formed lifted flows =
+    signed_tame at after next w v to from (reached_register w to formed.1.1.0) (reached_stored v from formed.1.1.1) temps
+lifts_with_tame at after next temps f (instr.MovSxd to from) formed lifted flows =
+    sign_extends_tame at after next to from (reached_register width.Quad to formed.0) (reached_stored width.Long from formed.1) temps
+lifts_with_tame at after next temps f (instr.Push from) formed lifted flows = pushes_tame at after next from (reached_pushed from formed) temps
+lifts_with_tame at after next temps f (instr.Pop to) formed lifted flows = pop_tame at after next to (reached_stored width.Quad to formed) temps
+lifts_with_tame at after next temps f instr.Leave formed lifted flows = leave_tame at after next temps
+lifts_with_tame at after next temps f instr.Ret formed lifted flows = tame_more (omega arith) (return_tame at after temps)
 lifts_with_tame at after next temps f (instr.Call d) formed lifted flows = calls_tame at after next temps d f flows
 lifts_with_tame at after next temps f (instr.Jmp d) formed lifted flows = jumps_tame at after next temps d f flows
 lifts_with_tame at after next temps f (instr.Jcc c d) formed lifted flows = condition_tame c.code temps (led_to next d) next
-lifts_with_tame at after next temps f i formed lifted flows = lifts_tame at after next temps f i formed lifted
+lifts_with_tame at after next temps f (instr.SetCc c to) formed lifted flows =
+    sets_condition_tame at after next c.code to (reached_stored width.Byte to formed.1) temps
+lifts_with_tame at after next temps f (instr.CmovCc c w to from) formed lifted flows =
+    chooses_tame at after next c.code w to from (reached_register w to formed.1.1.0) (reached_stored w from formed.1.1.1) temps
+lifts_with_tame at after next temps f (instr.Inc w to locked) formed lifted flows = increases_tame at after next w to (reached_stored w to formed.0) temps
+lifts_with_tame at after next temps f (instr.Dec w to locked) formed lifted flows = decreases_tame at after next w to (reached_stored w to formed.0) temps
+lifts_with_tame at after next temps f (instr.Not w to locked) formed lifted flows = turns_tame at after next w to (reached_stored w to formed.0) temps
+lifts_with_tame at after next temps f (instr.Neg w to) formed lifted flows = negates_tame at after next w to (reached_stored w to formed) temps
+lifts_with_tame at after next temps f (instr.Xadd w to from locked) formed lifted flows =
+    adds_exchanged_tame at after next w to from (reached_stored w to formed.0) formed.1.0 temps
+lifts_with_tame at after next temps f (instr.Widen w) formed lifted flows = widens_tame at after next w temps
+lifts_with_tame at after next temps f (instr.SignFill w) formed lifted flows = fills_tame at after next w temps
+lifts_with_tame at after next temps f instr.Nop formed lifted flows = ended tt tt
+lifts_with_tame at after next temps f instr.Pause formed lifted flows = ended tt tt
+lifts_with_tame at after next temps f instr.Endbr formed lifted flows = ended tt tt
+lifts_with_tame at after next temps f instr.Mfence formed lifted flows = fences_tame at after next temps
+lifts_with_tame at after next temps f instr.Ud2 formed lifted flows = ended tt (λ same. absurd cc)
+lifts_with_tame at after next temps f i formed lifted flows = absurd cc
 
 -- no instruction has more words
 pub words_most : (i : Instr) → words_of i ≤ 62

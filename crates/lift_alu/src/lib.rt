@@ -1,11 +1,10 @@
 //! The lifting of single x86 instructions to steps of the intermediate form.
-//! Others rest on `lift_instr`, by its clauses `meaning`, `few`, `selectable`, `own` and `unlocked`, on `instr_end`, which says how a block ends, and on `is_built`, which says what lines may have so far.
+//! Others rest on `lift_instr`, by its clauses `meaning`, `few`, `selectable`, `own` and `unlocked`, and on `instr_end`, which says how a block ends.
 //! Source: Intel SDM, volume 2, the pages of the instructions; flags by comparisons of words as in Hacker's Delight, chapter 2.
 #![tactic(auto)]
 
 mod access;
 mod builder;
-mod built;
 mod calls;
 mod change;
 mod end;
@@ -20,7 +19,6 @@ mod stack;
 mod tests;
 mod unary;
 
-pub use built::{ends_line, is_built};
 pub use end::instr_end;
 pub use lift::lift_instr;
 pub use small_steps::SmallSteps;
