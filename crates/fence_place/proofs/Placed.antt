@@ -1,22 +1,21 @@
 -- Fences keep accesses with their places, inputs and outputs.
 use Rattle.std.proofs.Common.{Bool, true, false, List, [], ◌∷◌, ℕ, ◌+◌, ◌≤◌, refl, sym, ◌≡◌, subst, arith}
 use Rattle.std.specs.Prelude.{if◌then◌else◌}
-use Rattle.std.specs.List.{AllByRecursion, flat_map}
+use Rattle.std.specs.List.{flat_map}
 use Rattle.ev_graph.specs.declared.events.Item.{Item}
 use Rattle.ev_graph.specs.declared.events.Item.TheVariants as items
 use Rattle.behavior.specs.Tree.{Tree, Next, ◌then◌, ticks}
 use Rattle.behavior.specs.Acts.{Permission, goes, fences_at}
-use Rattle.behavior.specs.Seen.{placed, placed_full}
+use Rattle.behavior.specs.Seen.{placed}
 use Rattle.behavior.specs.Kept.{SameNext, both-go, Keeps}
 use Rattle.behavior.proofs.Results.{results_any, self_then}
 use Rattle.behavior.proofs.Ticks.{ticks-then, earn_many}
-use Rattle.behavior.proofs.SeenLemmas.{SeesByParts, sees-placed, sees-placed_full}
+use Rattle.behavior.proofs.SeenLemmas.{SeesByParts, sees-placed}
 use Rattle.behavior.proofs.Beside.{Beside, give, spend, beside_keeps, spend_many}
 use Rattle.behavior.proofs.ActsLemmas.{beside_target_fence}
 use Rattle.behavior.proofs.KeepsLemmas.{keeps_then}
 use Rattle.x64_syntax.specs.declared.slots.Slot.{Slot}
 use Rattle.x64_syntax.specs.declared.slots.SlotKind.TheVariants.{Read, Write}
-use Rattle.limm_ir.specs.Conditions.{IsUnlocked}
 use Rattle.limm_ir.specs.Costs.{step_cost, fence_cost, fenced_cost}
 use Rattle.limm_ir.specs.Steps.{IrState, fence_of, ir_step, ir_steps}
 use Rattle.limm_ir.specs.declared.step.IrStep.{IrStep}
@@ -25,7 +24,7 @@ use Rattle.limm_ir.specs.declared.step.IrFence.{IrFence}
 use Rattle.limm_ir.specs.declared.step.IrFence.TheVariants.{Frm, Fww, Fsc}
 use Rattle.limm_ir.proofs.CallerLemmas.{steps-append}
 use Rattle.fence_place.specs.Marked.{marked}
-use Rattle.fence_place.specs.Fenced.{fenced, IsFenced, IsSameState, KeepsSeen, KeepsPlaced, KeepsFullFences}
+use Rattle.fence_place.specs.Fenced.{fenced, IsFenced, IsSameState, KeepsPlaced}
 
 module _ (seen : List Item → List Item) (sees : SeesByParts seen) where
   -- a tree beside itself, before what is side by side
@@ -36,12 +35,6 @@ module _ (seen : List Item → List Item) (sees : SeesByParts seen) where
   -- nothing is seen of a fence
   abbrev Hidden : IrFence → Type 0
   Hidden f = seen (items.Fence (record { kind = fence_of f; place = 0 }) ∷ []) ≡ []
-
-  -- the fences of a step are hidden
-  pub record HidesFences (x : IrStep) : Type 0 where
-    pub reads : Hidden Frm
-    pub writes : Hidden Fww
-    pub locked : (IsUnlocked x → ⊥) → Hidden Fsc
 
   -- what a tree costs in the source pays for what the target begins, and something is left
   paid : {S T U : Type 0} (Same : U → U → Type 0) (n m credit left : ℕ) (t : Tree (Next S)) (u : Tree (Next T)) (f : S → Tree (Next U)) (g : T → Tree (Next U))
@@ -96,52 +89,42 @@ module _ (seen : List Item → List Item) (sees : SeesByParts seen) where
     either true xs ys x s first second = first
     either false xs ys x s first second = second
 
-    fences_step : (private : List Slot) (x : IrStep) (s : IrState) → HidesFences x → Meant (fenced private x) x s
-    fences_step private (steps.Load t a size place) s hides =
+    fences_step : ((f : IrFence) → Hidden f) → (private : List Slot) (x : IrStep) (s : IrState) → Meant (fenced private x) x s
+    fences_step hidden private (steps.Load t a size place) s =
         let x = steps.Load t a size place in
-        either (marked private (record { address = place; kind = Read })) (x ∷ []) (x ∷ steps.Fence Frm ∷ []) x s (alone x s) (fence_behind Frm hides.reads x s (omega arith))
-    fences_step private (steps.Store a v size place) s hides =
+        either (marked private (record { address = place; kind = Read })) (x ∷ []) (x ∷ steps.Fence Frm ∷ []) x s
+        (alone x s) (fence_behind Frm (hidden Frm) x s (omega arith))
+    fences_step hidden private (steps.Store a v size place) s =
         let x = steps.Store a v size place in
-        either (marked private (record { address = place; kind = Write })) (x ∷ []) (steps.Fence Fww ∷ x ∷ []) x s (alone x s) (fence_before Fww hides.writes x s (omega arith))
-    fences_step private (steps.Rmw op t a v size place) s hides = fences_around Fsc (hides.locked (λ never. never)) (steps.Rmw op t a v size place) s (omega arith)
-    fences_step private (steps.Cas t a e v size place) s hides = fences_around Fsc (hides.locked (λ never. never)) (steps.Cas t a e v size place) s (omega arith)
-    fences_step private (steps.Const t v) s hides = alone (steps.Const t v) s
-    fences_step private (steps.GetReg t r) s hides = alone (steps.GetReg t r) s
-    fences_step private (steps.SetReg r t) s hides = alone (steps.SetReg r t) s
-    fences_step private (steps.GetFlag t f) s hides = alone (steps.GetFlag t f) s
-    fences_step private (steps.SetFlag f t) s hides = alone (steps.SetFlag f t) s
-    fences_step private (steps.Op op t a b) s hides = alone (steps.Op op t a b) s
-    fences_step private (steps.Select t c a b) s hides = alone (steps.Select t c a b) s
-    fences_step private (steps.Fence f) s hides = alone (steps.Fence f) s
-    fences_step private steps.Input s hides = alone steps.Input s
-    fences_step private steps.Output s hides = alone steps.Output s
-    fences_step private (steps.TrapIf t kind) s hides = alone (steps.TrapIf t kind) s
+        either (marked private (record { address = place; kind = Write })) (x ∷ []) (steps.Fence Fww ∷ x ∷ []) x s
+        (alone x s) (fence_before Fww (hidden Fww) x s (omega arith))
+    fences_step hidden private (steps.Rmw op t a v size place) s = fences_around Fsc (hidden Fsc) (steps.Rmw op t a v size place) s (omega arith)
+    fences_step hidden private (steps.Cas t a e v size place) s = fences_around Fsc (hidden Fsc) (steps.Cas t a e v size place) s (omega arith)
+    fences_step hidden private (steps.Const t v) s = alone (steps.Const t v) s
+    fences_step hidden private (steps.GetReg t r) s = alone (steps.GetReg t r) s
+    fences_step hidden private (steps.SetReg r t) s = alone (steps.SetReg r t) s
+    fences_step hidden private (steps.GetFlag t f) s = alone (steps.GetFlag t f) s
+    fences_step hidden private (steps.SetFlag f t) s = alone (steps.SetFlag f t) s
+    fences_step hidden private (steps.Op op t a b) s = alone (steps.Op op t a b) s
+    fences_step hidden private (steps.Select t c a b) s = alone (steps.Select t c a b) s
+    fences_step hidden private (steps.Fence f) s = alone (steps.Fence f) s
+    fences_step hidden private steps.Input s = alone steps.Input s
+    fences_step hidden private steps.Output s = alone steps.Output s
+    fences_step hidden private (steps.TrapIf t kind) s = alone (steps.TrapIf t kind) s
 
-    fences_all : (private : List Slot) (xs : List IrStep) → AllByRecursion HidesFences xs → (s : IrState) → Keeps seen 1 0 (SameNext IsSameState) (ir_steps fenced_cost may xs s) (ir_steps step_cost may (flat_map (fenced private) xs) s)
-    fences_all private [] hides s = beside_keeps seen sees 1 (SameNext IsSameState) {credit = 0} (give (both-go refl))
-    fences_all private (x ∷ xs) hides s =
+    fences_all : ((f : IrFence) → Hidden f) → (private : List Slot) (xs : List IrStep) (s : IrState)
+        → Keeps seen 1 0 (SameNext IsSameState) (ir_steps fenced_cost may xs s) (ir_steps step_cost may (flat_map (fenced private) xs) s)
+    fences_all hidden private [] s = beside_keeps seen sees 1 (SameNext IsSameState) {credit = 0} (give (both-go refl))
+    fences_all hidden private (x ∷ xs) s =
         let rest = flat_map (fenced private) xs in
         let both = keeps_then seen sees 1 0 IsSameState IsSameState (ir_steps fenced_cost may xs) (ir_steps step_cost may rest)
-        (λ a b same. subst (λ c. Keeps seen 1 0 (SameNext IsSameState) (ir_steps fenced_cost may xs a) (ir_steps step_cost may rest c)) same (fences_all private xs hides.1 a)) (fences_step private x s hides.0) in
+        (λ a b same. subst (λ c. Keeps seen 1 0 (SameNext IsSameState) (ir_steps fenced_cost may xs a) (ir_steps step_cost may rest c)) same
+        (fences_all hidden private xs a)) (fences_step hidden private x s) in
         subst (λ t. Keeps seen 1 0 (SameNext IsSameState) (ir_steps fenced_cost may (x ∷ xs) s) t) (sym (steps-append step_cost may (fenced private x) rest s))
         (subst (λ t. Keeps seen 1 0 (SameNext IsSameState) t (ir_steps step_cost may (fenced private x) s then ir_steps step_cost may rest)) (sym (steps-append fenced_cost may (x ∷ []) xs s)) both)
 
-keeps_seen : (seen : List Item → List Item) (sees : SeesByParts seen) (private : List Slot) (xs ys : List IrStep) → AllByRecursion (HidesFences seen sees) xs → IsFenced private xs ys → KeepsSeen seen xs ys
-keeps_seen seen sees private xs ys hides same may s =
-    subst (λ l. Keeps seen 1 0 (SameNext IsSameState) (ir_steps fenced_cost may xs s) (ir_steps step_cost may l s)) (sym same) (fences_all seen sees may private xs hides s)
-
-all_hidden : (xs : List IrStep) → AllByRecursion (HidesFences placed sees-placed) xs
-all_hidden [] = tt
-all_hidden (x ∷ xs) = (record { reads = refl; writes = refl; locked = λ locked. refl }, all_hidden xs)
-
-unlocked_hidden : (xs : List IrStep) → AllByRecursion IsUnlocked xs → AllByRecursion (HidesFences placed_full sees-placed_full) xs
-unlocked_hidden [] unlocked = tt
-unlocked_hidden (x ∷ xs) unlocked = (record { reads = refl; writes = refl; locked = λ locked. absurd (locked unlocked.0) }, unlocked_hidden xs unlocked.1)
-
 -- the steps with their fences mean the steps
 pub fences_keep : (private : List Slot) (xs ys : List IrStep) → IsFenced private xs ys → KeepsPlaced xs ys
-fences_keep private xs ys same = keeps_seen placed sees-placed private xs ys (all_hidden xs) same
-
--- with full fences, where no access is locked
-pub fences_keep_full : (private : List Slot) (xs ys : List IrStep) → IsFenced private xs ys → KeepsFullFences xs ys
-fences_keep_full private xs ys same unlocked = keeps_seen placed_full sees-placed_full private xs ys (unlocked_hidden xs unlocked) same
+fences_keep private xs ys same may s =
+    subst (λ l. Keeps placed 1 0 (SameNext IsSameState) (ir_steps fenced_cost may xs s) (ir_steps step_cost may l s)) (sym same)
+    (fences_all placed sees-placed may (λ f. refl) private xs s)

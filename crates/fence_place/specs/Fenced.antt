@@ -1,13 +1,11 @@
 -- Which fences stand around which steps.
 use Rattle.std.specs.Prelude.{◌≡◌, List, [], ◌∷◌, if◌then◌else◌}
-use Rattle.std.specs.List.{AllByRecursion, flat_map}
+use Rattle.std.specs.List.{flat_map}
 use Rattle.x64_syntax.specs.declared.slots.Slot.{Slot}
 use Rattle.x64_syntax.specs.declared.slots.SlotKind.TheVariants.{Read, Write}
-use Rattle.ev_graph.specs.declared.events.Item.{Item}
 use Rattle.behavior.specs.Acts.{Permission}
-use Rattle.behavior.specs.Seen.{placed, placed_full}
+use Rattle.behavior.specs.Seen.{placed}
 use Rattle.behavior.specs.Kept.{SameNext, Keeps}
-use Rattle.limm_ir.specs.Conditions.{IsUnlocked}
 use Rattle.limm_ir.specs.Costs.{step_cost, fenced_cost}
 use Rattle.limm_ir.specs.Steps.{IrState, ir_steps}
 use Rattle.limm_ir.specs.declared.step.IrFence.TheVariants.{Frm, Fww, Fsc}
@@ -34,16 +32,7 @@ IsFenced private xs ys = ys ≡ flat_map (fenced private) xs
 abbrev pub IsSameState : IrState → IrState → Type 0
 IsSameState s t = s ≡ t
 
--- Steps with fences do what the steps do, as far as is seen, and leave the same state. Steps cost what they cost with their
--- fences.
-abbrev pub KeepsSeen : (seen : List Item → List Item) → List IrStep → List IrStep → Type 0
-KeepsSeen seen xs ys = (may : Permission) (s : IrState)
-    → Keeps seen 1 0 (SameNext IsSameState) (ir_steps fenced_cost may xs s) (ir_steps step_cost may ys s)
-
--- fences keep accesses with their places, inputs and outputs
+-- Fences keep accesses with their places, inputs and outputs: steps with fences do what the steps do, as far as those are
+-- seen, and leave the same state. Steps cost what they cost with their fences.
 abbrev pub KeepsPlaced : List IrStep → List IrStep → Type 0
-KeepsPlaced xs ys = KeepsSeen placed xs ys
-
--- where no access is locked, they keep full fences as well
-abbrev pub KeepsFullFences : List IrStep → List IrStep → Type 0
-KeepsFullFences xs ys = AllByRecursion IsUnlocked xs → KeepsSeen placed_full xs ys
+KeepsPlaced xs ys = (may : Permission) (s : IrState) → Keeps placed 1 0 (SameNext IsSameState) (ir_steps fenced_cost may xs s) (ir_steps step_cost may ys s)

@@ -1,6 +1,6 @@
 ghost use Rattle.std.specs.Prelude.{◌≡◌, ◌≤◌, ◌++◌, IfOk, OnOk};
 ghost use Rattle.std.specs.List.{flat_map};
-ghost use Rattle.fence_place.specs.Fenced.{fenced, IsFenced, KeepsPlaced, KeepsFullFences};
+ghost use Rattle.fence_place.specs.Fenced.{fenced, IsFenced, KeepsPlaced};
 ghost use Rattle.fence_place.specs.Marked.{IsSorted};
 ghost use Rattle.limm_ir.specs.Conditions.{IsWellMade, IsSelectable};
 ghost use Rattle.limm_ir.specs.Costs.{cost_of, step_cost, fenced_cost};
@@ -19,7 +19,6 @@ pub fn place(alloc: Global, block: IrBlock, private: &Marks) -> Result<IrBlock, 
     ensures end { IfOk result (λ b. b.end ≡ block.end) }
     ensures fences { IfOk result (λ b. IsFenced private.now.slots block.steps b.steps) }
     ensures meaning { IfOk result (λ b. KeepsPlaced block.steps b.steps) }
-    ensures full { IfOk result (λ b. KeepsFullFences block.steps b.steps) }
     ensures few { IfOk result (λ b. cost_of step_cost b.steps ≤ cost_of fenced_cost block.steps) }
     ensures well { IsWellMade block.steps block.end → IfOk result (λ b. IsWellMade b.steps b.end) }
     ensures selectable { IsSelectable block.steps block.end → IfOk result (λ b. IsSelectable b.steps b.end) }

@@ -1,7 +1,7 @@
 use Rattle.std.proofs.Common.{◌≤◌, ◌∙◌, ap, sym, subst}
 use Rattle.std.specs.List.{flat_map}
 use Rattle.fence_place.specs.Fenced.{fenced}
-use Rattle.fence_place.proofs.Placed.{fences_keep, fences_keep_full}
+use Rattle.fence_place.proofs.Placed.{fences_keep}
 use Rattle.limm_ir.specs.Conditions.{Unset, IsWellMade, IsSelectable}
 use Rattle.limm_ir.specs.Costs.{cost_of, step_cost, fenced_cost}
 use Rattle.fence_place.proofs.Few.{fences_few}
@@ -12,10 +12,6 @@ use Rattle.fence_place.proofs.placing.place.Goals as goal
 pub returns-clause-meaning : goal.returns-clause-meaning
 returns-clause-meaning c =
     fences_keep c.args.private.now.slots c.args.block.steps c.of.result (c.of.ensures ∙ c.in_ok-steps.ensures ∙ ap (flat_map (fenced c.args.private.now.slots)) c.as_slice.ensures)
-
-pub returns-clause-full : goal.returns-clause-full
-returns-clause-full c =
-    fences_keep_full c.args.private.now.slots c.args.block.steps c.of.result (c.of.ensures ∙ c.in_ok-steps.ensures ∙ ap (flat_map (fenced c.args.private.now.slots)) c.as_slice.ensures)
 
 pub returns-clause-few : goal.returns-clause-few
 returns-clause-few c =
