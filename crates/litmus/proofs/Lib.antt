@@ -2,3 +2,4 @@ pub mod MessagePassingAllowed
 pub mod MessagePassingEvents
 pub mod MessagePassingForbidden
 pub mod MessagePassingForm
+pub mod StoreBufferingVerdicts

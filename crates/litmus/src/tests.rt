@@ -6,4 +6,7 @@ fn the_laws_are_proved() {
     message_passing_is_well_formed();
     arm_allows_message_passing();
     arm_forbids_message_passing_with_fences();
+    tso_allows_store_buffering();
+    tso_forbids_store_buffering_with_fences();
+    arm_forbids_store_buffering_with_fences();
 }

@@ -2,4 +2,3 @@ pub mod Acyclic
 pub mod CallerLemmas
 pub mod DoorLemmas
 pub mod LocalLemmas
-pub mod StoreBufferingVerdicts

@@ -6,7 +6,6 @@
 mod arm;
 mod doors;
 mod edge;
-mod examples;
 mod limm;
 mod model;
 mod pair;
@@ -15,10 +14,6 @@ mod tso;
 pub use arm::Arm;
 pub use doors::{Door, Opening, Side};
 pub use edge::EdgeKind;
-pub use examples::{
-    arm_forbids_store_buffering_with_fences, tso_allows_store_buffering,
-    tso_forbids_store_buffering_with_fences,
-};
 pub use limm::Limm;
 pub use model::OrderModel;
 pub use tso::Tso;

@@ -100,10 +100,3 @@ fn each_order_has_its_doors(rt: HostRuntime) -> Result<(), Fail> {
     assert!(rt; matches!(Tso::door(4).to, Side::Locked));
     Ok(())
 }
-
-#[test]
-fn the_examples_are_proved() {
-    tso_allows_store_buffering();
-    tso_forbids_store_buffering_with_fences();
-    arm_forbids_store_buffering_with_fences();
-}
