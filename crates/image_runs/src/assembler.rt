@@ -45,7 +45,7 @@ impl Assembler {
 
     /// Places a label behind the code so far.
     pub fn place(&mut self, label: Label) {
-        let here = self.code.len() as u32;
+        let here = offset_of(self.code.len());
         if let Some(place) = self.places.get_mut(label.number) {
             *place = here;
         }
@@ -73,11 +73,16 @@ impl Assembler {
         } = self;
         for distance in distances.as_slice() {
             let place = places.get(distance.to.number).copied().unwrap_or(0);
-            let behind = (distance.offset as u32).wrapping_add(4);
+            let behind = offset_of(distance.offset).wrapping_add(4);
             put(&mut code, distance.offset, place.wrapping_sub(behind));
         }
         code
     }
+}
+
+/// An offset in 32 bits, which are enough for code that is translated.
+fn offset_of(offset: usize) -> u32 {
+    u32::try_from(offset).unwrap_or(u32::MAX)
 }
 
 /// Puts a little-endian number at an offset.

@@ -49,7 +49,7 @@ impl Generator {
 
     /// Some ordinary instructions, one behind the other.
     pub fn instructions(&mut self) -> Result<(), AllocError> {
-        let count = 1 + self.random.below(4);
+        let count = self.random.below(4).saturating_add(1);
         for _ in 0..count {
             self.instruction()?;
         }

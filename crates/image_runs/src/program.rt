@@ -79,7 +79,7 @@ impl Generator {
     /// A function that calls only later ones.
     fn function(&mut self, number: u8, functions: &Functions) -> Result<(), AllocError> {
         self.code.place(functions.label(number));
-        let count = 2 + self.random.below(4);
+        let count = self.random.below(4).saturating_add(3);
         for _ in 0..count {
             self.statement(number, functions)?;
         }
@@ -90,13 +90,14 @@ impl Generator {
         }
     }
 
+    /// Code that goes on behind it in most runs; the first function is not left early.
     fn statement(&mut self, number: u8, functions: &Functions) -> Result<(), AllocError> {
         match self.random.below(8) {
             0 => self.instructions(),
             1 => self.skip(),
             2 => self.choice(),
             3 | 4 => self.repeat(number, functions),
-            5 => self.leave_early(),
+            5 if number > 0 => self.leave_early(),
             6 => self.transfer(),
             _ => self.call_later(number, functions),
         }
@@ -135,7 +136,7 @@ impl Generator {
     fn repeat(&mut self, number: u8, functions: &Functions) -> Result<(), AllocError> {
         let counter = 4 + number % 4;
         let top = self.code.label()?;
-        let rounds = 1 + self.random.below(3);
+        let rounds = self.random.below(3).saturating_add(1);
         self.code.push(&[0x41, 0xB8 | counter, rounds, 0, 0, 0])?;
         self.code.place(top);
         match self.random.below(3) {

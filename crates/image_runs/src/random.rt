@@ -27,7 +27,8 @@ impl Random {
 
     /// One of these numbers, or 0 where there is none.
     pub fn one_of(&mut self, numbers: &[u8]) -> u8 {
-        let index = self.below(numbers.len() as u8);
+        let count = u8::try_from(numbers.len()).unwrap_or(u8::MAX);
+        let index = self.below(count);
         numbers.get(usize::from(index)).copied().unwrap_or(0)
     }
 }
