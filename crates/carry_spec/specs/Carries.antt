@@ -1,5 +1,5 @@
 -- What it means that the bytes of an image carry those of an input.
-use Rattle.std.specs.Prelude.{◌≡◌, ◌≤◌, ◌<◌, ◌+◌, ◌*◌, ◌^◌, ℕ, Bool, false, List, [], ◌∷◌, ◌++◌, length, Option}
+use Rattle.std.specs.Prelude.{◌≡◌, ◌≤◌, ◌<◌, ◌+◌, ◌*◌, ◌^◌, ℕ, Bool, List, [], ◌∷◌, ◌++◌, length, Option}
 use Rattle.std.specs.List.{AllByRecursion}
 use Rattle.ev_graph.specs.declared.execution.Execution.{Execution}
 use Rattle.ev_graph.specs.declared.execution.Stack.{Stack}
@@ -21,6 +21,10 @@ use Rattle.carry_spec.specs.Executions.{IsImageExecution}
 use Rattle.carry_spec.specs.Explained.{IsExplanation, IsTame, Accounts}
 use Rattle.carry_spec.specs.Plan.{IsPlan}
 
+-- a layout of stacks fits the file with these bytes
+abbrev pub FitsFile : List ℕ → List Stack → Type 0
+FitsFile bytes stacks = Fits (segments_of bytes) (length (threads_of bytes)) stacks
+
 -- What the image is as a file: the input's segments, and behind them code that can only be executed.
 pub record IsImageOf (input image : List ℕ) (code_address : ℕ) (words : List ℕ) : Type 0 where
   -- the words have 32 bits
@@ -33,11 +37,12 @@ pub record IsImageOf (input image : List ℕ) (code_address : ℕ) (words : List
   -- its bytes are those of an image file, and no others
   pub bytes : image ≡ image_file (segments_of image) (threads_of image)
   -- a layout of stacks that fits the image fits the input
-  pub layouts : (stacks : List Stack) → Fits (segments_of image) (length (threads_of image)) stacks → Fits (segments_of input) (length (threads_of input)) stacks
+  pub layouts : (stacks : List Stack) → FitsFile image stacks → FitsFile input stacks
 
 -- What the image does: what the input's code does, where the slots of `private` need no fence, the executions of the image are
 -- those that `order` allows, and an instruction of the input takes at most `bound` words.
-pub record DoesAsInput (private : Slot → Bool) (order : Execution → Type 0) (bound : ℕ) (input image : List ℕ) (code : Code) (code_address : ℕ) (words : List ℕ) : Type 0 where
+pub record DoesAsInput (private : Slot → Bool) (order : Execution → Type 0) (bound : ℕ)
+    (input image : List ℕ) (code : Code) (code_address : ℕ) (words : List ℕ) : Type 0 where
   -- each run of a thread of the image has the trace and the end of one of the input's, at every cut
   pub backward : OfEachThread input image code code_address words Backward
   -- each run of a thread of the input that has begun n instructions has the trace and the end of one of the image's that has

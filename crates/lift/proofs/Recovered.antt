@@ -1,31 +1,30 @@
 -- The instructions of a block of recovered code stand one behind the other in the code's list, and are lifted.
-use Rattle.std.proofs.Common.{◌≡◌, ◌↔◌, ◌<◌, ◌≤◌, ◌+◌, ◌-◌, ◌*◌, ◌%◌, ◌^◌, ℕ, zero, suc, Bool, true, false, List, [], ◌∷◌, length, take, drop, map, get_or, ◌⊎◌, inl, inr, Option, Some, refl, sym, ap, subst, ◌∙◌, arith, ltb}
+use Rattle.std.proofs.Common.{◌≡◌, ◌<◌, ◌≤◌, ◌+◌, ℕ, zero, suc, Bool, true, false, List, [], ◌∷◌, length, take, drop, map, get_or, ◌⊎◌, inl, inr, Some, refl, sym, ap, subst, ◌∙◌, arith, ltb}
 use Rattle.std.specs.Prelude.{if◌then◌else◌, sum_by, slice_get}
 use Rattle.std.specs.Option.{option_map}
 use Rattle.std.specs.List.{AllByRecursion}
 use Rattle.std.specs.List.Sorted.{IsPartitionPoint, IsNonDecreasingBy}
 use Rattle.std.proofs.lemmas.Bool.{cases_lt, ltb-true, ltb-false}
-use Rattle.std.proofs.lemmas.List.{length-drop, length-map}
+use Rattle.std.proofs.lemmas.List.{length-map}
 use Rattle.std.proofs.lemmas.List.Sums.{sum_by-cons}
 use Rattle.std.proofs.lemmas.Option.{slice_get_within, slice_get-get_or, slice_get-map, get_or_from_slice_get}
 use Rattle.ev_graph.specs.Places.{StandsIn, IsDistinct}
 use Rattle.x64_syntax.specs.Formed.{IsFormed, IsFlowOf}
 use Rattle.x64_syntax.specs.declared.instr.Instr.{Instr}
 use Rattle.x64_syntax.specs.declared.instr.Instr.TheVariants as instr
-use Rattle.x64_syntax.specs.declared.placed.Flow.{Flow}
 use Rattle.x64_syntax.specs.declared.placed.Flow.TheVariants as flow
 use Rattle.x64_syntax.specs.declared.placed.Placed.{Placed}
 use Rattle.elf_read.specs.Elf.{IsSegment}
 use Rattle.elf_read.specs.declared.fault.FileFault.TheVariants.{TooMuchCode, UnbuiltCode, Overlap}
-use Rattle.code_at.specs.Code.{Program, StandsAt, target_from, flow_of, is_at}
+use Rattle.code_at.specs.Code.{Program, target_from, flow_of, is_at}
 use Rattle.code_at.proofs.CallerLemmas.{some_length, ends_low, is_formed}
 use Rattle.cfg_walk.specs.declared.code.Block.{Block}
 use Rattle.cfg_walk.specs.declared.code.Code.{Code}
 use Rattle.cfg_walk.specs.Reach.{IsReached, IsPlaced, end_of}
-use Rattle.cfg_walk.specs.Faults.{IsOverlapping, weight_at, code_limit, is_unbuilt}
-use Rattle.cfg_walk.specs.Blocks.{IsStretch, IsBlock, BeginAt, Follow, AreOf, ends_block}
+use Rattle.cfg_walk.specs.Faults.{weight_at, code_limit, is_unbuilt}
+use Rattle.cfg_walk.specs.Blocks.{IsStretch, BeginAt, Follow, AreOf}
 use Rattle.cfg_walk.specs.Blocks.IsStretch.{ends, goes-on}
-use Rattle.cfg_walk.specs.Code.{IsIncreasing, AreInstructions, IsCodeOf}
+use Rattle.cfg_walk.specs.Code.{IsIncreasing, IsCodeOf}
 use Rattle.lift_alu.specs.Built.{is_lifted}
 use Rattle.lift_alu.specs.Meant.{after}
 use Rattle.lift.specs.Block.{LeadOn, IsLifted, AreLifted}

@@ -99,7 +99,8 @@ fn is_hidden(slot: Slot, private: &Marks) -> bool
 
 /// Whether an instruction is a full fence.
 fn is_full_fence(instr: &Instr) -> bool
-    ensures { (later : Sequence Station) (before : Maybe AnyKind) (fenced : Bool) → gaps_from before (fenced || result) later ≡ gaps_from before fenced (strong instr.now ++ later) }
+    ensures { (later : Sequence Station) (before : Maybe AnyKind) (fenced : Bool) →
+        gaps_from before (fenced || result) later ≡ gaps_from before fenced (strong instr.now ++ later) }
 {
     matches!(*instr, Instr::Mfence)
 }
@@ -148,7 +149,8 @@ impl Planning {
     /// Passes an instruction: the full fence, if it is one, and its slots.
     fn pass(&mut self, placed: &Placed, private: &Marks) -> Result<(), NoMemory>
         requires { IsSorted private.now.slots }
-        ensures slots { OnOk result (self.new.slots.items ≡ self.old.slots.items ++ filter (λ s. not (hides (marked private.now.slots) s)) (placed_slots placed.now)) }
+        ensures slots { OnOk result (
+            self.new.slots.items ≡ self.old.slots.items ++ filter (λ s. not (hides (marked private.now.slots) s)) (placed_slots placed.now)) }
         ensures gaps { OnOk result ((later : Sequence Station) →
             self.new.gaps.items ++ gaps_from self.new.before self.new.fenced later
             ≡ self.old.gaps.items ++ gaps_from self.old.before self.old.fenced (stations_of (marked private.now.slots) placed.now ++ later)) }
