@@ -1,6 +1,10 @@
 -- What it means that the bytes of an image carry those of an input.
-use Rattle.std.specs.Prelude.{◌≡◌, ◌≤◌, ◌<◌, ◌+◌, ◌*◌, ◌^◌, ℕ, Bool, List, [], ◌∷◌, ◌++◌, length, Option}
+use Rattle.std.specs.Prelude.{◌≡◌, ◌≢◌, ◌≤◌, ◌<◌, ◌+◌, ◌*◌, ◌^◌, ℕ, Bool, List, [], ◌∷◌, ◌++◌, length, Option}
 use Rattle.std.specs.List.{AllByRecursion}
+use Rattle.ev_graph.specs.declared.events.End.{End}
+use Rattle.ev_graph.specs.declared.events.End.TheVariants.{Trap}
+use Rattle.ev_graph.specs.declared.events.Item.{Item}
+use Rattle.ev_graph.specs.declared.events.TrapKind.TheVariants.{BadJump}
 use Rattle.ev_graph.specs.declared.execution.Execution.{Execution}
 use Rattle.ev_graph.specs.declared.execution.Stack.{Stack}
 use Rattle.ev_graph.specs.Memory.{cells_of, Fits}
@@ -11,12 +15,13 @@ use Rattle.elf_read.specs.ElfFile.{segments_of, threads_of}
 use Rattle.elf_write.specs.Image.{code_part, kept, IsCodeAddress}
 use Rattle.elf_write.specs.ImageFile.{image_file}
 use Rattle.behavior.specs.Kept.{Backward, Forward}
+use Rattle.behavior.specs.Run.{Run}
 use Rattle.cfg_walk.specs.declared.code.Code.{Code}
 use Rattle.cfg_walk.specs.Code.{IsFileCode}
 use Rattle.fence_plan.specs.declared.gap.Gap.{Gap}
 use Rattle.fence_plan.specs.Planned.{FollowsPlan}
 use Rattle.carry_spec.specs.Faults.{HasNoFault}
-use Rattle.carry_spec.specs.Threads.{OfEachThread}
+use Rattle.carry_spec.specs.Threads.{OnThreads, OfEachThread}
 use Rattle.carry_spec.specs.Executions.{IsImageExecution}
 use Rattle.carry_spec.specs.Explained.{IsExplanation, IsTame, Accounts}
 use Rattle.carry_spec.specs.Plan.{IsPlan}
@@ -72,6 +77,12 @@ abbrev pub EachFollowsPlan : (private : Slot → Bool) → (input image : List �
 EachFollowsPlan private input image code code_address words =
     (plan : ℕ → Option (List Gap)) → IsPlan private code plan
     → OfEachThread input image code code_address words (FollowsPlan private (λ (s : Thread). plan s.at))
+
+-- no run of a thread of the input, and none of the image's thread, ends because it came to an address without an instruction
+abbrev pub NeverJumpsWrong : OnThreads
+NeverJumpsWrong step s image_step t =
+    ((items : List Item) (end : End) (n : ℕ) → Run step s items end n → end ≢ Trap BadJump)
+    × ((items : List Item) (end : End) (n : ℕ) → Run image_step t items end n → end ≢ Trap BadJump)
 
 -- the words are few: at most 64 for each instruction of the code, and 64 more
 abbrev pub AreFew : Code → List ℕ → Type 0

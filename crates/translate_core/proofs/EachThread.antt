@@ -20,7 +20,9 @@ use Rattle.cfg_walk.specs.declared.code.Code.{Code}
 use Rattle.cfg_walk.specs.Code.{IsFileCode}
 use Rattle.cfg_walk.specs.Machine.{exits_of, thread_step}
 use Rattle.fence_place.specs.Marked.{marked}
+use Rattle.cfg_walk.proofs.CallerLemmas.{never_jumps_wrong}
 use Rattle.fence_plan.specs.Planned.{FollowsPlan}
+use Rattle.fence_plan.proofs.CallerLemmas.{bare}
 use Rattle.a64_code.specs.declared.instr.XReg.{XReg}
 use Rattle.a64_table.specs.State.{AState}
 use Rattle.a64_table.specs.Machine.{AThread, a64_step}
@@ -28,7 +30,7 @@ use Rattle.a64_block.specs.declared.block.ABlock.{ABlock}
 use Rattle.code_layout.specs.Carried.{IsCarriedOut}
 use Rattle.code_layout.specs.Places.{place_from, IsBegun}
 use Rattle.carry_spec.specs.Threads.{start_bank, x64_start, a64_start, allowed, OnThreads, OfEachThread}
-use Rattle.carry_spec.specs.Carries.{EachFollowsPlan}
+use Rattle.carry_spec.specs.Carries.{EachFollowsPlan, NeverJumpsWrong}
 use Rattle.translate_core.specs.Passed.{IsPassed}
 use Rattle.translate_core.proofs.Accounted.{IsPlanned}
 use Rattle.translate_core.proofs.Passes.{Alike}
@@ -118,3 +120,19 @@ module _ (private : List Slot) (input image : List ℕ) (code : Code) (address :
   each_follows_plan plan is_plan =
       each_thread (FollowsPlan (marked private) (λ (s : Thread). plan s.at))
       (λ may s t stands. thread_follows (program_in input) code laid.is_code laid.segments private plan is_plan may 122 address words blocks (λ b here t. laid.carried b here may t) laid.passed s t stands)
+
+  -- no run of either ends because it came to an address without an instruction
+  pub each_never_jumps_wrong : OfEachThread input image code address words NeverJumpsWrong
+  each_never_jumps_wrong =
+      let plan = plan_for (marked private) code in
+      let is_plan = is_plan_for (program_in input) code laid.is_code (marked private) in
+      each_thread NeverJumpsWrong
+      (λ may s t stands.
+      let (b, here, first_is) = stands.known in
+      let pass = laid.passed b here in
+      let never = never_jumps_wrong (program_in input) code laid.segments laid.is_code may s (pass.block, pass.known, pass.first ∙ first_is) in (
+        never,
+        λ items end n run.
+            let one = thread_planned (program_in input) code laid.is_code laid.segments private plan is_plan may 122 address words blocks (λ b here t. laid.carried b here may t) laid.passed s t stands items end n run in
+            never (bare one.0) end one.1 one.2,
+      ))

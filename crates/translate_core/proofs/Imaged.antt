@@ -28,13 +28,14 @@ use Rattle.a64_table.specs.State.{AState}
 use Rattle.a64_block.specs.declared.block.ABlock.{ABlock}
 use Rattle.code_layout.specs.Carried.{IsCarriedOut}
 use Rattle.code_layout.specs.Places.{place_from}
-use Rattle.carry_spec.specs.Carries.{EachFollowsPlan, IsImageOf}
+use Rattle.carry_spec.specs.Carries.{EachFollowsPlan, IsImageOf, NeverJumpsWrong}
+use Rattle.carry_spec.specs.Threads.{OfEachThread}
 use Rattle.carry_spec.specs.Faults.{HasNoFault}
 use Rattle.translate_core.specs.Passed.{ArePassed}
 use Rattle.translate_core.specs.Translated.{IsReadOf, IsCarried}
 use Rattle.translate_core.proofs.Carried.{carried}
 use Rattle.translate_core.proofs.Closed.{threads_begun, each_passed}
-use Rattle.translate_core.proofs.EachThread.{IsLaid, each_follows_plan}
+use Rattle.translate_core.proofs.EachThread.{IsLaid, each_follows_plan, each_never_jumps_wrong}
 
 -- what was laid out of blocks of words
 pub record IsLaidOutOf (elf : Elf) (code : Code) (blocks : List (ABlock XReg)) (image : Image) : Type 0 where
@@ -123,3 +124,7 @@ module _ (private : List Slot) (input out : List ℕ) (elf : Elf) (code : Code) 
   -- and its runs follow the plan
   pub image_follows : EachFollowsPlan (marked private) input out code image.code_address image.words
   image_follows = each_follows_plan private input out code image.code_address image.words blocks is_laid
+
+  -- and none ends by a wrong jump
+  pub image_jumps : OfEachThread input out code image.code_address image.words NeverJumpsWrong
+  image_jumps = each_never_jumps_wrong private input out code image.code_address image.words blocks is_laid

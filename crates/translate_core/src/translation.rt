@@ -6,9 +6,10 @@ ghost use Rattle.elf_write.specs.Image.{IsImage};
 ghost use Rattle.elf_write.specs.Written.{IsFileOf};
 ghost use Rattle.cfg_walk.specs.Code.{IsFileCode};
 ghost use Rattle.fence_place.specs.Marked.{marked};
-ghost use Rattle.carry_spec.specs.Carries.{AreFew, EachFollowsPlan};
+ghost use Rattle.carry_spec.specs.Carries.{AreFew, EachFollowsPlan, NeverJumpsWrong};
 ghost use Rattle.carry_spec.specs.Faults.{IsRefusedFor};
 ghost use Rattle.carry_spec.specs.Plan.{ArePlans, IsSummary};
+ghost use Rattle.carry_spec.specs.Threads.{OfEachThread};
 ghost use Rattle.translate_core.specs.Translated.{IsReadOf, IsCarried};
 
 use crate::block::pass_blocks;
@@ -48,6 +49,7 @@ pub fn translate(alloc: Global, bytes: &[u8]) -> Result<Translated, TransFault>
     ensures file { IfOk result (λ made. IsFileOf made.image made.file) }
     ensures carries { IfOk result (λ made. IsCarried (marked made.private.slots) bytes.now made.file made.code made.image.code_address made.image.words) }
     ensures follows { IfOk result (λ made. EachFollowsPlan (marked made.private.slots) bytes.now made.file made.code made.image.code_address made.image.words) }
+    ensures jumps { IfOk result (λ made. OfEachThread bytes.now made.file made.code made.image.code_address made.image.words NeverJumpsWrong) }
     ensures few { IfOk result (λ made. AreFew made.code made.image.words) }
     ensures plan { IfOk result (λ made. ArePlans (marked made.private.slots) made.code made.plan) }
     ensures summary { IfOk result (λ made. IsSummary (marked made.private.slots) (length (threads_of bytes.now)) made.code made.summary) }

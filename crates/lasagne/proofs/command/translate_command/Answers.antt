@@ -22,7 +22,7 @@ returns-in-Err-Failed-put g c =
     let e = c.in-Ok-translate.ensures in
     let made = c.in-Ok-translate.made in
     let input = c.deref.result.now in
-    let whole = image_for input made e.private e.carries e.follows e.few e.summary in (
+    let whole = image_for input made e.private e.carries e.follows e.jumps e.few e.summary in (
       rose_later _ _ _ c.in-Ok.ensures.cause.later (c.in-Err-Failed-put.ensures.cause.cause (cc)),
       of_image _ c.args.from.now (record { files = g.H.Shelf.files c.args.shelf.now; taken = g.O.Sink.taken c.args.out.now; shelf_faults = g.H.Shelf.faults c.args.shelf.now; sink_faults = g.O.Sink.faults c.args.out.now }) c.in-Ok.bytes.items input made.file c.deref.ensures.value c.in-Ok.ensures.bytes
           whole.0
@@ -38,7 +38,7 @@ returns-in-Ok-write_all g c =
     let e = c.in-Ok-translate.ensures in
     let made = c.in-Ok-translate.made in
     let input = c.deref.result.now in
-    let whole = image_for input made e.private e.carries e.follows e.few e.summary in
+    let whole = image_for input made e.private e.carries e.follows e.jumps e.few e.summary in
     of_image _ c.args.from.now (record { files = g.H.Shelf.files c.args.shelf.now; taken = g.O.Sink.taken c.args.out.now; shelf_faults = g.H.Shelf.faults c.args.shelf.now; sink_faults = g.O.Sink.faults c.args.out.now }) c.in-Ok.bytes.items input made.file c.deref.ensures.value c.in-Ok.ensures.bytes
     whole.0 (
       put_image _ _ _ c.args.to.now c.as_slice.result.now made.file c.in-Ok.ensures.same c.as_slice.ensures c.in-Ok-put.ensures.ok,
@@ -52,7 +52,7 @@ returns-in-Err-Failed-write_all g c =
     let e = c.in-Ok-translate.ensures in
     let made = c.in-Ok-translate.made in
     let input = c.deref.result.now in
-    let whole = image_for input made e.private e.carries e.follows e.few e.summary in (
+    let whole = image_for input made e.private e.carries e.follows e.jumps e.few e.summary in (
       c.in-Err-Failed-write_all.ensures.cause.cause (cc),
       of_image _ c.args.from.now (record { files = g.H.Shelf.files c.args.shelf.now; taken = g.O.Sink.taken c.args.out.now; shelf_faults = g.H.Shelf.faults c.args.shelf.now; sink_faults = g.O.Sink.faults c.args.out.now }) c.in-Ok.bytes.items input made.file c.deref.ensures.value c.in-Ok.ensures.bytes
           whole.0 (
@@ -68,7 +68,7 @@ returns g c =
     let e = c.in-Ok-translate.ensures in
     let made = c.in-Ok-translate.made in
     let input = c.deref.result.now in
-    let whole = image_for input made e.private e.carries e.follows e.few e.summary in (
+    let whole = image_for input made e.private e.carries e.follows e.jumps e.few e.summary in (
       c.in-Err-NoMemory-write_all.ensures.no_memory (cc),
       inr (of_image _ c.args.from.now (record { files = g.H.Shelf.files c.args.shelf.now; taken = g.O.Sink.taken c.args.out.now; shelf_faults = g.H.Shelf.faults c.args.shelf.now; sink_faults = g.O.Sink.faults c.args.out.now }) c.in-Ok.bytes.items input made.file c.deref.ensures.value c.in-Ok.ensures.bytes
           whole.0

@@ -7,7 +7,7 @@ use Rattle.code_layout.specs.Conditions.{AreClosed, AreBegun}
 use Rattle.code_layout.specs.Places.{blocks_size}
 use Rattle.translate_core.specs.Passed.{ArePassed}
 use Rattle.translate_core.proofs.Closed.{closed, threads_begun, sites_begun}
-use Rattle.translate_core.proofs.Imaged.{image_carries, image_follows}
+use Rattle.translate_core.proofs.Imaged.{image_carries, image_follows, image_jumps}
 use Rattle.translate_core.proofs.Sizes.{few_sites, passed_few, passed_fit}
 use Rattle.translate_core.proofs.translation.translate.Goals as goal
 
@@ -58,6 +58,21 @@ returns-clause-follows c =
     let e = c.in_ok-elf.ensures in
     let laid = c.in_ok-image.ensures in
     image_follows c.of.result c.args.bytes.now c.of-2.result elf code blocks c.in_ok-image.image e.first
+    (record { segments = e.segments; threads = e.threads; input = e.input; output = e.output; program = e.program })
+    c.in_ok-code.ensures.code passed
+    (record { carried = laid.carried; threads = laid.threads; segments = laid.segments; is_image = laid.image })
+    written
+
+pub returns-clause-jumps : goal.returns-clause-jumps
+returns-clause-jumps c =
+    let elf = c.in_ok-elf.elf in
+    let code = c.in_ok-code.code in
+    let blocks = c.as_slice.result.now in
+    let passed : ArePassed c.of.result code code.blocks blocks = subst (ArePassed c.of.result code code.blocks) (sym c.as_slice.ensures) c.in_ok-blocks.ensures in
+    let written = subst (IsFileOf c.in_ok-image.image) (sym c.of-2.ensures) c.in_ok-file.ensures in
+    let e = c.in_ok-elf.ensures in
+    let laid = c.in_ok-image.ensures in
+    image_jumps c.of.result c.args.bytes.now c.of-2.result elf code blocks c.in_ok-image.image e.first
     (record { segments = e.segments; threads = e.threads; input = e.input; output = e.output; program = e.program })
     c.in_ok-code.ensures.code passed
     (record { carried = laid.carried; threads = laid.threads; segments = laid.segments; is_image = laid.image })
