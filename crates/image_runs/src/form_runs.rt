@@ -7,60 +7,62 @@ use std::alloc::{AllocError, Global};
 const RETURN: u8 = 0xC3;
 
 /// From here each form runs: rbx is an index, and rsp, rbp and rdi point to cells that may be written.
-const STARTS: [Start; 2] = [
-    Start {
-        registers: [
-            0x8000_0000_7FFF_FF80,
-            0xFFFF_FFFF_8000_0001,
-            0x0000_0001_0000_7FFF,
-            3,
-            0x404020,
-            0x404028,
-            1,
-            0x404000,
-            8,
-            0x8000,
-            10,
-            11,
-            12,
-            13,
-            14,
-            15,
-        ],
-        flags: Flags {
-            cf: true,
-            zf: false,
-            sf: true,
-            of: false,
+fn starts() -> [Start; 2] {
+    [
+        Start {
+            registers: [
+                0x8000_0000_7FFF_FF80,
+                0xFFFF_FFFF_8000_0001,
+                0x0000_0001_0000_7FFF,
+                3,
+                0x404020,
+                0x404028,
+                1,
+                0x404000,
+                8,
+                0x8000,
+                10,
+                11,
+                12,
+                13,
+                14,
+                15,
+            ],
+            flags: Flags {
+                cf: true,
+                zf: false,
+                sf: true,
+                of: false,
+            },
         },
-    },
-    Start {
-        registers: [
-            0xFF,
-            1,
-            0xFFFF_FFFF_FFFF_FFFF,
-            3,
-            0x404020,
-            0x404028,
-            0,
-            0x404000,
-            0,
-            0x7F,
-            0,
-            0,
-            0,
-            0,
-            0,
-            0,
-        ],
-        flags: Flags {
-            cf: false,
-            zf: true,
-            sf: false,
-            of: true,
+        Start {
+            registers: [
+                0xFF,
+                1,
+                0xFFFF_FFFF_FFFF_FFFF,
+                3,
+                0x404020,
+                0x404028,
+                0,
+                0x404000,
+                0,
+                0x7F,
+                0,
+                0,
+                0,
+                0,
+                0,
+                0,
+            ],
+            flags: Flags {
+                cf: false,
+                zf: true,
+                sf: false,
+                of: true,
+            },
         },
-    },
-];
+    ]
+}
 
 /// Runs each form with a return behind it, on chosen values of reads.
 pub fn run_forms<R: Print + AllocGlobal>(rt: &R) -> anyhow::Result<Tally> {
@@ -71,7 +73,7 @@ pub fn run_forms<R: Print + AllocGlobal>(rt: &R) -> anyhow::Result<Tally> {
         code.push(RETURN)?;
         let subject = Subject::of(alloc, code, &[0; 64])?;
         tally.programs = tally.programs.wrapping_add(1);
-        for start in STARTS {
+        for start in starts() {
             let (wanted, found) = subject.runs(alloc, &start, None)?;
             tally.compare(rt, form, &wanted, &found)?;
         }
@@ -79,8 +81,8 @@ pub fn run_forms<R: Print + AllocGlobal>(rt: &R) -> anyhow::Result<Tally> {
     Ok(tally)
 }
 
-/// The bytes of a form, which its line begins with in hexadecimal digits.
-fn bytes_of(alloc: Global, line: &str) -> Result<Vec<u8>, AllocError> {
+/// The bytes of a program, which its line begins with in hexadecimal digits.
+pub fn bytes_of(alloc: Global, line: &str) -> Result<Vec<u8>, AllocError> {
     let mut bytes = Vec::new(alloc);
     let mut high = None;
     for letter in line.chars() {
