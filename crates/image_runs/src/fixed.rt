@@ -16,13 +16,19 @@ E801000000C3488D05F9FFFFFF50C3 bad-return ; call 401006; ret; 401006: lea rax, [
 E801000000C3E801000000C358C3 halts ; call 401006; ret; 401006: call 40100C; ret; 40100C: pop rax; ret\n\
 0F0B invalid ; ud2\n\
 E801000000C30F0B invalid ; call 401006; ret; 401006: ud2\n\
-E8FB0F00004889C7E803100000E8EE0F00004801C7E9F60F0000 halts 8000000000000001 0 ; call 402000; mov rdi, rax; call 402010; call 402000; add rdi, rax; jmp 402010\n\
-E80D0000004889C7E805000000E9FE0F0000E9E90F0000 halts 8000000000000001 ; call 401012; mov rdi, rax; call 401012; jmp 402010; 401012: jmp 402000\n\
+E8FB0F00004889C7E803100000E8EE0F00004801C7E9F60F0000 halts 8000000000000001 0 ; \
+call 402000; mov rdi, rax; call 402010; call 402000; add rdi, rax; jmp 402010\n\
+E80D0000004889C7E805000000E9FE0F0000E9E90F0000 halts 8000000000000001 ; \
+call 401012; mov rdi, rax; call 401012; jmp 402010; 401012: jmp 402000\n\
 E8FBFFFFFFC3 bad-access ; 401000: call 401000; ret\n\
 488B00C3 bad-access ; mov rax, [rax]; ret\n\
-B9050000004801C848FFC975F84889C7E9FB0F0000 halts F ; mov ecx, 5; 401005: add rax, rcx; dec rcx; jne 401005; mov rdi, rax; jmp 402010\n\
-B904000000E8080000004889C7E9FE0F00004885C9740D48FFC9E8F3FFFFFF488D440001C3 halts F ; mov ecx, 4; call 401012; mov rdi, rax; jmp 402010; 401012: test rcx, rcx; je 401024; dec rcx; call 401012; lea rax, [rax + rax + 1]; 401024: ret\n\
-E801000000C34885C07401C3BF07000000E9FA0F0000 halts 7 ; call 401006; ret; 401006: test rax, rax; je 40100C; ret; 40100C: mov edi, 7; jmp 402010\n\
+B9050000004801C848FFC975F84889C7E9FB0F0000 halts F ; \
+mov ecx, 5; 401005: add rax, rcx; dec rcx; jne 401005; mov rdi, rax; jmp 402010\n\
+B904000000E8080000004889C7E9FE0F00004885C9740D48FFC9E8F3FFFFFF488D440001C3 halts F ; \
+mov ecx, 4; call 401012; mov rdi, rax; jmp 402010; 401012: test rcx, rcx; je 401024; dec rcx; call 401012; \
+lea rax, [rax + rax + 1]; 401024: ret\n\
+E801000000C34885C07401C3BF07000000E9FA0F0000 halts 7 ; \
+call 401006; ret; 401006: test rax, rax; je 40100C; ret; 40100C: mov edi, 7; jmp 402010\n\
 ";
 
 /// The stack pointer at the start: 8 below the end of the cells, which are 0.
@@ -50,15 +56,26 @@ pub fn run_fixed<R: Print + AllocGlobal>(rt: &R) -> anyhow::Result<Tally> {
     let mut cells = Vec::new(alloc);
     cells.resize(0x1000, 0)?;
     for line in FIXED.lines() {
-        let subject = Subject::of(alloc, bytes_of(alloc, line)?, cells.as_slice())?;
-        tally.programs = tally.programs.wrapping_add(1);
-        let (wanted, found) = subject.runs(alloc, &start(), Some(cells.as_slice()))?;
-        tally.compare(rt, line, &wanted, &found)?;
-        if !is_as_told(alloc, &wanted, line)? {
-            tally.tell(rt, line, "the program and its line")?;
-        }
+        run_line(rt, &mut tally, line, cells.as_slice())?;
     }
     Ok(tally)
+}
+
+/// Runs the program of a line on these cells.
+fn run_line<R: Print + AllocGlobal>(
+    rt: &R,
+    tally: &mut Tally,
+    line: &str,
+    cells: &[u8],
+) -> anyhow::Result<()> {
+    let alloc = rt.alloc();
+    let subject = Subject::of(alloc, bytes_of(alloc, line)?, cells)?;
+    tally.programs = tally.programs.wrapping_add(1);
+    let wanted = subject.compare(rt, tally, line, &start(), Some(cells))?;
+    if !is_as_told(alloc, &wanted, line)? {
+        tally.tell(rt, line, "the program and its line")?;
+    }
+    Ok(())
 }
 
 /// Whether a run has the end and the outputs of a line.

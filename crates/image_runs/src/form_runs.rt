@@ -66,19 +66,20 @@ fn starts() -> [Start; 2] {
 
 /// Runs each form with a return behind it, on chosen values of reads.
 pub fn run_forms<R: Print + AllocGlobal>(rt: &R) -> anyhow::Result<Tally> {
-    let alloc = rt.alloc();
     let mut tally = Tally::default();
     for form in FORMS.lines() {
-        let mut code = bytes_of(alloc, form)?;
-        code.push(RETURN)?;
-        let subject = Subject::of(alloc, code, &[0; 64])?;
-        tally.programs = tally.programs.wrapping_add(1);
-        for start in starts() {
-            let (wanted, found) = subject.runs(alloc, &start, None)?;
-            tally.compare(rt, form, &wanted, &found)?;
-        }
+        run_form(rt, &mut tally, form)?;
     }
     Ok(tally)
+}
+
+/// Runs a form from each start.
+fn run_form<R: Print + AllocGlobal>(rt: &R, tally: &mut Tally, form: &str) -> anyhow::Result<()> {
+    let alloc = rt.alloc();
+    let mut code = bytes_of(alloc, form)?;
+    code.push(RETURN)?;
+    let subject = Subject::of(alloc, code, &[0; 64])?;
+    subject.compare_both(rt, tally, form, &starts(), None)
 }
 
 /// The bytes of a program, which its line begins with in hexadecimal digits.

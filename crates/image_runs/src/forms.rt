@@ -1,5 +1,6 @@
-/// Instructions that are translated so far, each alone: every operation at each width, with registers, memory and numbers. Each
-/// is a line: its bytes, and behind a blank its text (as `llvm-mc -triple=x86_64 -x86-asm-syntax=intel -show-encoding` gives them).
+/// Instructions that are translated so far, each alone: every operation at each width, with registers, memory and
+/// numbers. Each is a line: its bytes, and behind a blank its text (as
+/// `llvm-mc -triple=x86_64 -x86-asm-syntax=intel -show-encoding` gives them).
 pub const FORMS: &str = "\
 00C8 add al, cl\n\
 007CDFF0 add byte ptr [rdi + 8*rbx - 16], bh\n\

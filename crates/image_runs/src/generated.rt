@@ -13,21 +13,28 @@ const TOP: u64 = CELLS_AT + 0xFF8;
 
 /// Runs so many programs, each from two starts.
 pub fn run_generated<R: Print + AllocGlobal>(rt: &R, count: u32) -> anyhow::Result<Tally> {
-    let alloc = rt.alloc();
     let mut tally = Tally::default();
     let mut random = Random::of(SEED);
     for number in 0..count {
-        let code = program(alloc, Random::of(random.word()))?;
-        let cells = cells(alloc, &mut random)?;
-        let subject = Subject::of(alloc, code, cells.as_slice())?;
-        let name = number.to_string(alloc)?;
-        tally.programs = tally.programs.wrapping_add(1);
-        for _ in 0..2_u32 {
-            let (wanted, found) = subject.runs(alloc, &start(&mut random), Some(cells.as_slice()))?;
-            tally.compare(rt, name.as_str(), &wanted, &found)?;
-        }
+        run_program(rt, &mut tally, &mut random, number)?;
     }
     Ok(tally)
+}
+
+/// Generates a program, whose name is its number, and runs it.
+fn run_program<R: Print + AllocGlobal>(
+    rt: &R,
+    tally: &mut Tally,
+    random: &mut Random,
+    number: u32,
+) -> anyhow::Result<()> {
+    let alloc = rt.alloc();
+    let code = program(alloc, Random::of(random.word()))?;
+    let cells = cells(alloc, random)?;
+    let starts = [start(random), start(random)];
+    let name = number.to_string(alloc)?;
+    let subject = Subject::of(alloc, code, cells.as_slice())?;
+    subject.compare_both(rt, tally, name.as_str(), &starts, Some(cells.as_slice()))
 }
 
 /// A page of cells: 16 random words, and 0 behind them.

@@ -32,7 +32,8 @@ pub enum Event {
     Output(u64),
 }
 
-/// What a run has made, and the cells as they are then; without cells the values of reads are chosen, one after another.
+/// What a run has made, and the cells as they are then; without cells the values of reads are chosen, one after
+/// another.
 #[derive(Drop)]
 pub struct Made {
     pub events: Vec<Event>,
@@ -67,8 +68,8 @@ impl Made {
         chosen(self.inputs)
     }
 
-    /// Adds what an instruction or a word makes. A listed call writes first and then takes or gives a value; a listed jump
-    /// reads last.
+    /// Adds what an instruction or a word makes. A listed call writes first and then takes or gives a value; a listed
+    /// jump reads last.
     pub fn add(&mut self, items: &RowItems) -> Result<(), AllocError> {
         match items.write {
             Some(write) => {

@@ -1,6 +1,6 @@
-//! Translates programs and runs each, and its image, by the two tables of rows, on the same values; what differs is printed.
+//! Translates programs, runs each and its image by the two tables of rows, on the same values; prints what differs.
 //! Nothing rests on it; it calls `translate` of `translate_core`, `row` of `x64_table` and `row` of `a64_table`.
-//! Source: this project's own programs; random numbers are Marsaglia's xorshift (Journal of Statistical Software 8(14), 2003).
+//! Source: this project's own programs; random numbers: Marsaglia's xorshift (J. of Statistical Software 8(14), 2003).
 #![tactic(auto)]
 
 mod assembler;

@@ -5,6 +5,7 @@ use crate::made::{CELLS_AT, Made};
 use crate::ran::{Ran, flag_numbers};
 use crate::run_code::{Program, run_code};
 use crate::run_words::run_words;
+use crate::tally::Tally;
 use a64_table::A64State;
 use alu_width::Flags;
 use anyhow::ensure;
@@ -72,6 +73,36 @@ impl Subject {
         let wanted = run_code(program, x64_start(start), Made::nothing(alloc, cells)?)?;
         let found = run_words(image, a64_start(start, first), Made::nothing(alloc, cells)?)?;
         Ok((wanted, found))
+    }
+
+    /// Compares the run of the program with that of its image, and gives the program's.
+    pub fn compare<R: Print + AllocGlobal>(
+        &self,
+        rt: &R,
+        tally: &mut Tally,
+        name: &str,
+        start: &Start,
+        cells: Option<&[u8]>,
+    ) -> anyhow::Result<Ran> {
+        let (wanted, found) = self.runs(rt.alloc(), start, cells)?;
+        tally.compare(rt, name, &wanted, &found)?;
+        Ok(wanted)
+    }
+
+    /// Compares the runs from two starts.
+    pub fn compare_both<R: Print + AllocGlobal>(
+        &self,
+        rt: &R,
+        tally: &mut Tally,
+        name: &str,
+        starts: &[Start; 2],
+        cells: Option<&[u8]>,
+    ) -> anyhow::Result<()> {
+        tally.programs = tally.programs.wrapping_add(1);
+        let [first, second] = starts;
+        self.compare(rt, tally, name, first, cells)?;
+        self.compare(rt, tally, name, second, cells)?;
+        Ok(())
     }
 }
 

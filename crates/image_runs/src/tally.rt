@@ -53,8 +53,8 @@ impl Tally {
             events,
             differences,
         } = *self;
-        println!(rt;
-            "{name}: {programs} programs, {runs} runs of which {halted} halt, {instructions} instructions, {words} words, {events} accesses, inputs and outputs, {differences} differences"
-        )
+        print!(rt; "{name}: {programs} programs, {runs} runs of which {halted} halt, ")?;
+        print!(rt; "{instructions} instructions, {words} words, ")?;
+        println!(rt; "{events} accesses, inputs and outputs, {differences} differences")
     }
 }
