@@ -1,0 +1,4 @@
+pub mod Entries
+pub mod Instructions
+pub mod Pattern
+pub mod Steps
