@@ -9,19 +9,19 @@ use Rattle.std.proofs.lemmas.List.{length-map}
 use Rattle.std.proofs.lemmas.List.Sums.{sum_by-cons}
 use Rattle.std.proofs.lemmas.Option.{slice_get_within, slice_get-get_or, slice_get-map, get_or_from_slice_get}
 use Rattle.ev_graph.specs.Places.{StandsIn, IsDistinct}
-use Rattle.x64_syntax.specs.Formed.{IsFormed, IsFlowOf}
+use Rattle.x64_syntax.specs.Formed.{IsFlowOf}
 use Rattle.x64_syntax.specs.declared.instr.Instr.{Instr}
 use Rattle.x64_syntax.specs.declared.instr.Instr.TheVariants as instr
 use Rattle.x64_syntax.specs.declared.placed.Flow.TheVariants as flow
 use Rattle.x64_syntax.specs.declared.placed.Placed.{Placed}
 use Rattle.elf_read.specs.Elf.{IsSegment}
-use Rattle.elf_read.specs.declared.fault.FileFault.TheVariants.{TooMuchCode, UnbuiltCode, Overlap}
+use Rattle.elf_read.specs.declared.fault.FileFault.TheVariants.{TooMuchCode, Indirect, Overlap}
 use Rattle.code_at.specs.Code.{Program, target_from, flow_of, is_at}
 use Rattle.code_at.proofs.CallerLemmas.{some_length, ends_low, is_formed}
 use Rattle.cfg_walk.specs.declared.code.Block.{Block}
 use Rattle.cfg_walk.specs.declared.code.Code.{Code}
 use Rattle.cfg_walk.specs.Reach.{IsReached, IsPlaced, end_of}
-use Rattle.cfg_walk.specs.Faults.{weight_at, code_limit, is_unbuilt}
+use Rattle.cfg_walk.specs.Faults.{weight_at, code_limit, is_indirect}
 use Rattle.cfg_walk.specs.Blocks.{IsStretch, BeginAt, Follow, AreOf}
 use Rattle.cfg_walk.specs.Blocks.IsStretch.{ends, goes-on}
 use Rattle.cfg_walk.specs.Code.{IsIncreasing, IsCodeOf}
@@ -120,31 +120,11 @@ rising_places placed sorted i j d le less = by (cases_lt i j)
 
 -- ---- each instruction is lifted
 
--- what is not refused as unbuilt is lifted
-built : (i : Instr) → IsFormed i → is_unbuilt i ≡ false → is_lifted i ≡ true
-built (instr.Alu o w to from true) formed none = absurd (cc)
-built (instr.Alu o w to from false) formed none = refl
-built (instr.Xchg w to from true) formed none = absurd (cc)
-built (instr.Xchg w to from false) formed none = refl
-built (instr.Inc w to true) formed none = absurd (cc)
-built (instr.Inc w to false) formed none = refl
-built (instr.Dec w to true) formed none = absurd (cc)
-built (instr.Dec w to false) formed none = refl
-built (instr.Not w to true) formed none = absurd (cc)
-built (instr.Not w to false) formed none = refl
-built (instr.Xadd w to from true) formed none = absurd (cc)
-built (instr.Xadd w to from false) formed none = refl
-built (instr.Cmpxchg w to from locked) formed none = absurd (let held = formed.1.1 in cc)
-built (instr.CallInd to) formed none = absurd (cc)
-built (instr.JmpInd to) formed none = absurd (cc)
-built (instr.Mul w from) formed none = absurd (cc)
-built (instr.ImulOne w from) formed none = absurd (cc)
-built (instr.ImulTwo w to from) formed none = absurd (cc)
-built (instr.ImulThree w to from by) formed none = absurd (cc)
-built (instr.Div w from) formed none = absurd (cc)
-built (instr.Idiv w from) formed none = absurd (cc)
-built (instr.Shift o w to by) formed none = absurd (cc)
-built i formed none = refl
+-- what is no indirect call or jump is lifted
+direct_lifted : (i : Instr) → is_indirect i ≡ false → is_lifted i ≡ true
+direct_lifted (instr.CallInd to) direct = absurd (cc)
+direct_lifted (instr.JmpInd to) direct = absurd (cc)
+direct_lifted i direct = refl
 
 -- a call or a jump fits each flow that a listed address has
 call_fits : (d : ℕ) (one two : Bool) → IsFlowOf (instr.Call d) (if one then flow.ListedIn else (if two then flow.ListedOut else flow.Plain))
@@ -220,13 +200,13 @@ module _ (program : Program) (code : Code) (segments : AllByRecursion IsSegment 
       let formed = is_formed program p.address p placed.stands in
       record {
         formed = formed;
-        lifted = built p.instr formed (by (is_unbuilt p.instr) refl);
+        lifted = direct_lifted p.instr (by (is_indirect p.instr) refl);
         flows = subst (IsFlowOf p.instr) (sym placed.stands.flows) (fits program (p.address + p.length) p.instr);
       }
     where
-      by : (b : Bool) → is_unbuilt p.instr ≡ b → b ≡ false
-      by true unbuilt = absurd (is.clear (UnbuiltCode p.address) (omega arith) (omega arith) (record { p = p; placed = placed; here = refl; unbuilt = unbuilt }))
-      by false unbuilt = refl
+      by : (b : Bool) → is_indirect p.instr ≡ b → b ≡ false
+      by true indirect = absurd (is.clear (Indirect p.address) (omega arith) (omega arith) (record { p = p; placed = placed; here = refl; indirect = indirect }))
+      by false indirect = refl
 
   each_placed_lifted : (ps : List Placed) → AllByRecursion (IsPlaced program) ps → AllByRecursion IsLifted ps
   each_placed_lifted [] each = tt

@@ -11,7 +11,7 @@ use Rattle.limm_ir.specs.declared.step.IrOp.{IrOp}
 use Rattle.limm_ir.specs.declared.step.IrOp.TheVariants as ops
 use Rattle.limm_ir.specs.declared.step.IrStep.{IrStep}
 use Rattle.limm_ir.specs.declared.step.IrStep.TheVariants as steps
-use Rattle.limm_ir.specs.Conditions.{step_reads, step_sets, end_reads, Known, Unset, Set, Constant, IsSet, know, learn, HasConstant, InRange, IsWell, IsWellMade, IsSetIn, SetsOnce, IsRead, IsLiveAt, LiveAtMost, IsUnlocked, IsSelectable}
+use Rattle.limm_ir.specs.Conditions.{step_reads, step_sets, end_reads, Known, Unset, Set, Constant, IsSet, know, learn, HasConstant, InRange, IsWell, IsWellMade, IsSetIn, SetsOnce, IsRead, IsLiveAt, LiveAtMost, IsSelectable}
 use Rattle.limm_ir.specs.Costs.{cost_of, fenced_cost}
 use Rattle.limm_ir.proofs.CallerLemmas.{cost_of-append}
 use Rattle.lift_alu.specs.Meant.{end_of, most_words, AreStepsOf}
@@ -334,16 +334,6 @@ block_few (p ∷ ps) temps steps (here, later, same, one, rest) =
     let parts : cost_of fenced_cost steps ≡ cost_of fenced_cost here + cost_of fenced_cost later = ap (cost_of fenced_cost) same ∙ cost_of-append fenced_cost here later in
     let words = sum_by-cons most_words p ps in
     omega (arith, parts, words, one.few, block_few ps (temps + 256) later rest)
-
-unlocked_then : (xs ys : List IrStep) → AllByRecursion IsUnlocked xs → AllByRecursion IsUnlocked ys → AllByRecursion IsUnlocked (xs ++ ys)
-unlocked_then [] ys one two = two
-unlocked_then (x ∷ xs) ys one two = (one.0, unlocked_then xs ys one.1 two)
-
--- they make no locked access
-pub block_unlocked : (ps : List Placed) (temps : ℕ) (steps : List IrStep) → AreStepsFrom temps ps steps → AllByRecursion IsUnlocked steps
-block_unlocked [] temps steps none = subst (AllByRecursion IsUnlocked) (sym none) tt
-block_unlocked (p ∷ ps) temps steps (here, later, same, one, rest) =
-    subst (AllByRecursion IsUnlocked) (sym same) (unlocked_then here later one.unlocked (block_unlocked ps (temps + 256) later rest))
 
 -- one instruction more, behind the others
 pub steps_snoc : (ps : List Placed) (q : Placed) (temps : ℕ) (xs ys : List IrStep) → AreStepsFrom temps ps xs → AreStepsOf q (temps + 256 * length ps) ys → AreStepsFrom temps (ps ++ q ∷ []) (xs ++ ys)

@@ -1,9 +1,8 @@
 ghost use Rattle.std.specs.Prelude.{◌≡◌, ◌≤◌, ◌<◌, ◌+◌, ℕ, IfOk, List as Sequence, Some, length, map, slice_get, take, drop, sum_by};
-ghost use Rattle.std.specs.List.{AllByRecursion};
 ghost use Rattle.x64_syntax.specs.declared.placed.Placed.{Placed as AnyPlaced};
 ghost use Rattle.cfg_walk.specs.declared.code.Block.{Block as AnyBlock};
 ghost use Rattle.cfg_walk.specs.Code.{IsIncreasing};
-ghost use Rattle.limm_ir.specs.Conditions.{IsSelectable, IsUnlocked};
+ghost use Rattle.limm_ir.specs.Conditions.{IsSelectable};
 ghost use Rattle.limm_ir.specs.Costs.{cost_of, fenced_cost};
 ghost use Rattle.lift_alu.specs.Meant.{most_words};
 ghost use Rattle.lift.specs.Block.{AreLifted, AreStepsFrom, LiftsBlock, end_from};
@@ -58,7 +57,6 @@ pub fn lift_block(alloc: Global, code: &Code, block: u32) -> Result<IrBlock, NoM
     ensures meaning { IfOk result (λ b. (ps : Sequence AnyPlaced) → AreOfBlock code.now block ps → LiftsBlock ps b.steps b.end) }
     ensures few { IfOk result (λ b. (ps : Sequence AnyPlaced) → AreOfBlock code.now block ps → cost_of fenced_cost b.steps ≤ sum_by most_words ps) }
     ensures selectable { IfOk result (λ b. IsSelectable b.steps b.end) }
-    ensures unlocked { IfOk result (λ b. AllByRecursion IsUnlocked b.steps) }
     ensures steps { IfOk result (λ b. (ps : Sequence AnyPlaced) → AreOfBlock code.now block ps → AreStepsFrom 0 ps b.steps) }
 {
     let lifted = lift_placed(alloc, instructions_of(code, block))?;

@@ -1,6 +1,6 @@
 ghost use Rattle.std.specs.Prelude.{◌≡◌, ◌≤◌, ◌^◌, IfOk, length, sum_by};
 ghost use Rattle.std.specs.List.{AllByRecursion};
-ghost use Rattle.limm_ir.specs.Conditions.{IsSelectable, IsUnlocked};
+ghost use Rattle.limm_ir.specs.Conditions.{IsSelectable};
 ghost use Rattle.limm_ir.specs.Costs.{cost_of, fenced_cost};
 ghost use Rattle.lift_alu.specs.Meant.{most_words};
 ghost use Rattle.lift.specs.Block.{AreLifted, IsLifted, AreStepsFrom, LiftsBlock, first_of, end_from};
@@ -22,7 +22,6 @@ pub(crate) fn lift_placed(alloc: Global, placed: &[Placed]) -> Result<IrBlock, N
     ensures meaning { IfOk result (λ b. LiftsBlock placed.now b.steps b.end) }
     ensures few { IfOk result (λ b. cost_of fenced_cost b.steps ≤ sum_by most_words placed.now) }
     ensures selectable { IfOk result (λ b. IsSelectable b.steps b.end) }
-    ensures unlocked { IfOk result (λ b. AllByRecursion IsUnlocked b.steps) }
     ensures steps { IfOk result (λ b. AreStepsFrom 0 placed.now b.steps) }
 {
     let steps = lift_each(alloc, placed)?;

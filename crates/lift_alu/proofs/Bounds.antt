@@ -76,6 +76,18 @@ module _ (live : List ℕ) where
     in_price = omega (arith, h.in_price);
   }
 
+  -- the number 1
+  pub one_within : Within live 1 1 (Number 1)
+  one_within = small_within 1 (omega arith)
+
+  -- a value of the width, one more or less
+  pub by_one_within : (o : IrOp) → ((k : Known) → HasConstant o k) → op_cost o ≤ 1 → (w : Width) (a : ℕ) → Among live a
+      → Within live 3 5 (clean w (Operation o (Kept a) (Number 1)))
+  by_one_within o plain cheap w a in_a = clean_within w _ (omega arith) counted
+    where
+      counted : Within live 3 3 (Operation o (Kept a) (Number 1))
+      counted = record { sound = (in_a, tt, ordinary plain); in_room = omega arith; in_price = omega (arith, cheap) }
+
   -- a value with its sign
   pub with_sign_within : {most_room most_price : ℕ} (w : Width) (e : Formula) → 3 ≤ most_room → Within live most_room most_price e
       → Within live most_room (most_price + 2) (with_sign w e)
@@ -137,7 +149,7 @@ module _ (live : List ℕ) where
   -- ---- addresses
 
   -- one of two formulas
-  chosen_within : {most_room most_price : ℕ} (b : Bool) (x y : Formula) → Within live most_room most_price x → Within live most_room most_price y
+  pub chosen_within : {most_room most_price : ℕ} (b : Bool) (x y : Formula) → Within live most_room most_price x → Within live most_room most_price y
       → Within live most_room most_price (if b then x else y)
   chosen_within true x y first second = first
   chosen_within false x y first second = second

@@ -20,7 +20,7 @@ built_keeps b c e rest t at is =
     ∙ sym (ap (λ d. so_far d (rest (Kept (place b.next e)))) is) ∙ sym (ap (λ (u : Temp). so_far c (rest (Kept u.0))) at)
 
 -- a value is computed, and a step that does not set a temporary stands behind its steps
-built_then : (b c d : Builder) (e : Formula) (x : Temp → IrStep) (rest : Lifting) (t : Temp) → t ≡ temp (place b.next e) → c ≡ built_on b (computes b.next e) (b.next + size e)
+pub built_then : (b c d : Builder) (e : Formula) (x : Temp → IrStep) (rest : Lifting) (t : Temp) → t ≡ temp (place b.next e) → c ≡ built_on b (computes b.next e) (b.next + size e)
     → d ≡ built_on c (x t ∷ []) c.next → b.steps ++ (computes b.next e ++ x (temp (place b.next e)) ∷ rest (b.next + size e)) ≡ so_far d rest
 built_then b c d e x rest t at is then_is =
     sym (append_assoc b.steps (computes b.next e) (x (temp (place b.next e)) ∷ rest (b.next + size e)))

@@ -64,7 +64,7 @@ some_bits : (w : Width) → 0 < bits w
 some_bits w = positive (bits w) (is_width w)
 
 -- the highest bit of a value by its formula
-value_top : (w : Width) (i : IrState) (e : Formula) → value i (top w e) ≡ value i e / 2 ^ (bits w - 1)
+pub value_top : (w : Width) (i : IrState) (e : Formula) → value i (top w e) ≡ value i e / 2 ^ (bits w - 1)
 value_top width.Byte i e = refl
 value_top width.Word i e = refl
 value_top width.Long i e = refl
@@ -381,7 +381,7 @@ value_by_parity false code rest f i flags is =
     value_even code f i flags ∙ ap (λ m. bit (even_condition m f)) (sym same) ∙ ap (λ m. bit (even_condition (code - m) f)) (sym is)
 
 -- the parity of a number
-parity : (n : ℕ) → n % 2 ≡ bit (n % 2 == 1)
+pub parity : (n : ℕ) → n % 2 ≡ bit (n % 2 == 1)
 parity n = grind (arith, nat_tests)
 
 -- a condition

@@ -1,6 +1,5 @@
 -- What it means that the steps of an instruction do what its row does, and what instructions share.
-use Rattle.std.proofs.Common.{◌≡◌, ℕ, ◌<◌, Bool, true, false, []}
-use Rattle.std.specs.Prelude.{not}
+use Rattle.std.proofs.Common.{◌≡◌, ℕ, ◌<◌, false, []}
 use Rattle.behavior.specs.Tree.{Tree, Next, ◌then◌}
 use Rattle.behavior.specs.Acts.{Permission}
 use Rattle.behavior.specs.Leaving.{Left}
@@ -39,11 +38,6 @@ same_elsewhere s i at same = record { regs = same.regs; fit = same.fit; cf = sam
 -- the flags of a thread and of the steps
 pub has_flags : (s : Thread) (i : IrState) → SameThread s i → HasFlags s.flags i
 has_flags s i same = record { cf = same.cf; zf = same.zf; sf = same.sf; of = same.of }
-
--- an instruction that is lifted is not locked
-pub not_locked : {A : Type 0} (locked : Bool) → not locked ≡ true → locked ≡ true → A
-not_locked true built is = cc
-not_locked false built is = cc
 
 -- a low part of a register
 pub low_register : (w : Width) (r : Reg) → r.high ≡ false → r.number < 16 → IsRegister w r

@@ -1,6 +1,5 @@
 -- The steps of arithmetic do what their rows do.
-use Rattle.std.proofs.Common.{◌≡◌, ℕ, ◌^◌, ◌<◌, Bool, true, false, refl, sym, subst}
-use Rattle.std.specs.Prelude.{not}
+use Rattle.std.proofs.Common.{◌≡◌, ℕ, ◌^◌, ◌<◌, false, refl, sym, subst}
 use Rattle.word_arith.specs.Bits.{bit}
 use Rattle.alu_width.specs.declared.flags.Flags.{Flags}
 use Rattle.alu_width.specs.declared.flags.Outcome.{Outcome}
@@ -34,7 +33,7 @@ use Rattle.lift_alu.proofs.KeptFormulas.{below_clean}
 use Rattle.lift_alu.proofs.Rules.{IsLater, Does, Later, Holds, holds_later, keeps_does}
 use Rattle.lift_alu.proofs.FlagRules.{ResultFlags, CarryFlag, sets_flags_does}
 use Rattle.lift_alu.proofs.OperandRules.{fetched_stored, pair_stored, pair_fetched, fetches_does, ends_does, changes_does}
-use Rattle.lift_alu.proofs.Instructions.{has_flags, not_locked, Follows, Means}
+use Rattle.lift_alu.proofs.Instructions.{has_flags, Follows, Means}
 
 -- two numbers become what they are
 by_values : (P : ℕ → ℕ → Type 0) {x y a b : ℕ} → x ≡ a → y ≡ b → P x y → P a b
@@ -236,17 +235,16 @@ module _ (may : Permission) (table place after temps : ℕ) (fits : after < 2 ^ 
       flags_does place after o w may end q t n2 i2 ka kb kr a b rest same2 both holds3 go))
 
   -- ADD, OR, ADC, SBB, AND, SUB, XOR and CMP
-  pub alu_means : (o : AluOp) (w : Width) (to from : Operand) (locked : Bool) → not locked ≡ true → ArePair w to from → Here (instr.Alu o w to from locked)
+  pub alu_means : (o : AluOp) (w : Width) (to from : Operand) → ArePair w to from → Here (instr.Alu o w to from false)
   unfolding acts lifts alu_row
-  alu_means o w to from true built pair f t s at same = not_locked true built refl
-  alu_means op.Add w to from false built pair f t s at same = combine_does op.Add w to from pair t s at same
-  alu_means op.Or w to from false built pair f t s at same = combine_does op.Or w to from pair t s at same
-  alu_means op.Adc w to from false built pair f t s at same = combine_does op.Adc w to from pair t s at same
-  alu_means op.Sbb w to from false built pair f t s at same = combine_does op.Sbb w to from pair t s at same
-  alu_means op.And w to from false built pair f t s at same = combine_does op.And w to from pair t s at same
-  alu_means op.Sub w to from false built pair f t s at same = combine_does op.Sub w to from pair t s at same
-  alu_means op.Xor w to from false built pair f t s at same = combine_does op.Xor w to from pair t s at same
-  alu_means op.Cmp w to from false built pair f t s at same = compare_does op.Cmp w to from pair t s at same
+  alu_means op.Add w to from pair f t s at same = combine_does op.Add w to from pair t s at same
+  alu_means op.Or w to from pair f t s at same = combine_does op.Or w to from pair t s at same
+  alu_means op.Adc w to from pair f t s at same = combine_does op.Adc w to from pair t s at same
+  alu_means op.Sbb w to from pair f t s at same = combine_does op.Sbb w to from pair t s at same
+  alu_means op.And w to from pair f t s at same = combine_does op.And w to from pair t s at same
+  alu_means op.Sub w to from pair f t s at same = combine_does op.Sub w to from pair t s at same
+  alu_means op.Xor w to from pair f t s at same = combine_does op.Xor w to from pair t s at same
+  alu_means op.Cmp w to from pair f t s at same = compare_does op.Cmp w to from pair t s at same
 
   -- TEST
   pub test_means : (w : Width) (to from : Operand) → ArePair w to from → Here (instr.Test w to from)

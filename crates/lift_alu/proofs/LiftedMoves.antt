@@ -1,6 +1,6 @@
 -- The steps of moves do what their rows do.
 use Rattle.std.proofs.Common.{◌≡◌, ◌≢◌, ℕ, ◌%◌, ◌^◌, ◌<◌, ◌≤◌, Bool, true, false, inl, inr, refl, sym, ap, ◌∙◌, subst, arith}
-use Rattle.std.specs.Prelude.{not, if◌then◌else◌}
+use Rattle.std.specs.Prelude.{if◌then◌else◌}
 use Rattle.word_arith.specs.Bits.{bit}
 use Rattle.word_arith.specs.Signed.{sign_extend}
 use Rattle.word_arith.proofs.CallerLemmas.{bit_below}
@@ -8,12 +8,13 @@ use Rattle.alu_width.specs.Conditions.{condition}
 use Rattle.behavior.specs.Tree.{◌then◌}
 use Rattle.behavior.specs.Acts.{Permission}
 use Rattle.x64_syntax.specs.Formed.{IsRegister, IsCondition, IsInRegister, IsInMemory, IsStored, IsNarrow, ArePair}
-use Rattle.x64_syntax.specs.Operands.{bits, is_in_memory}
+use Rattle.x64_syntax.specs.Operands.{bits}
 use Rattle.x64_syntax.specs.declared.instr.Instr.{Instr}
 use Rattle.x64_syntax.specs.declared.instr.Instr.TheVariants as instr
 use Rattle.x64_syntax.specs.declared.operand.Cond.{Cond}
 use Rattle.x64_syntax.specs.declared.operand.Operand.{Operand}
 use Rattle.x64_syntax.specs.declared.operand.Operand.TheVariants as operand
+use Rattle.x64_syntax.specs.declared.operand.Reg.{Reg}
 use Rattle.x64_syntax.specs.declared.operand.Width.{Width}
 use Rattle.x64_syntax.specs.declared.operand.Width.TheVariants as width
 use Rattle.x64_table.specs.State.{Thread, register, set, rax, upper, address}
@@ -35,7 +36,7 @@ use Rattle.lift_alu.proofs.Computed.{IsKeptBelow}
 use Rattle.lift_alu.proofs.KeptFormulas.{below_clean, below_with_sign, below_register, below_address, below_condition}
 use Rattle.lift_alu.proofs.MoveValues.{value_extended, value_filled, value_choice}
 use Rattle.lift_alu.proofs.Rules.{Does, keeps_does, Holds, holds_later}
-use Rattle.lift_alu.proofs.Instructions.{Follows, Means, has_flags, not_locked, low_register}
+use Rattle.lift_alu.proofs.Instructions.{Follows, Means, has_flags, low_register}
 use Rattle.lift_alu.proofs.OperandRules.{fetched_stored, pair_stored, pair_fetched, low_of_fit, value_address_at, fetches_does, moves_does, puts_does, puts_ends}
 
 -- a value of 8 or 16 bits fits a greater width
@@ -169,25 +170,21 @@ module _ (may : Permission) (table place after temps : ℕ) (fits : after < 2 ^ 
       (value_filled s w (register_formula w rax) a (value_register t s w rax same (low_register w rax refl (omega arith))) (register_below w rax t))
 
   -- XCHG of two registers
-  pub xchg_means : (w : Width) (to from : Operand) (locked : Bool) → not locked ≡ true → IsStored w to × (IsInRegister w from × (locked ≡ is_in_memory to)) → Here (instr.Xchg w to from locked)
+  pub xchg_means : (w : Width) (r q : Reg) → IsRegister w r → IsRegister w q → Here (instr.Xchg w (operand.Reg r) (operand.Reg q) false)
   unfolding acts lifts rows.xchg_row rows.changes rows.fetches rows.stores rows.puts holds exchanges puts_operand set
-  xchg_means w (operand.Reg r) (operand.Reg q) false built formed f t s at same =
+  xchg_means w r q is held f t s at same =
       let first = register w r t in
       let second = register w q t in
       let tree = rows.leaves (set w r second (set w q first t)) then (Follows may table) in
       fetches_does may place after fits (Follows may table) (ends.Goto after) w (operand.Reg r) t temps s (λ a. rows.leaves (set w r second (set w q a t)))
-      (λ a. lifted.fetches place after w (operand.Reg q) (λ b. puts w q a (puts w r b done))) same formed.0 at
+      (λ a. lifted.fetches place after w (operand.Reg q) (λ b. puts w q a (puts w r b done))) same is at
       (λ a fit k1 n1 i1 same1 later1 holds1.
       fetches_does may place after fits (Follows may table) (ends.Goto after) w (operand.Reg q) t n1 i1 (λ b. rows.leaves (set w r b (set w q a t)))
-      (λ b. puts w q (Kept k1) (puts w r b done)) same1 formed.1.0 at
+      (λ b. puts w q (Kept k1) (puts w r b done)) same1 held at
       (λ b fit' k2 n2 i2 same2 later2 holds2.
       let held1 = holds_later later2 holds1 in
-      puts_does may (ends.Goto after) (rows.leaves (set w r b (set w q a t)) then (Follows may table)) t n2 i2 w q (Kept k1) a (puts w r (Kept k2) done) same2 formed.1.0 held1.below (held1.is ∙ low_of_fit w a fit)
+      puts_does may (ends.Goto after) (rows.leaves (set w r b (set w q a t)) then (Follows may table)) t n2 i2 w q (Kept k1) a
+      (puts w r (Kept k2) done) same2 held held1.below (held1.is ∙ low_of_fit w a fit)
       (λ n3 i3 same3 later3.
       let held2 = holds_later later3 holds2 in
-      puts_ends may place after fits table w r (set w q a t) n3 i3 (Kept k2) b same3 formed.0 at held2.below (held2.is ∙ low_of_fit w b fit'))))
-  xchg_means w (operand.Reg r) (operand.Reg q) true built formed f t s at same = not_locked true built refl
-  xchg_means w (operand.Reg r) (operand.Mem q) locked built formed f t s at same = absurd formed.1.0
-  xchg_means w (operand.Reg r) (operand.Imm q) locked built formed f t s at same = absurd formed.1.0
-  xchg_means w (operand.Mem m) from locked built formed f t s at same = not_locked locked built formed.1.1
-  xchg_means w (operand.Imm n) from locked built formed f t s at same = absurd formed.0
+      puts_ends may place after fits table w r (set w q a t) n3 i3 (Kept k2) b same3 is at held2.below (held2.is ∙ low_of_fit w b fit'))))

@@ -1,19 +1,19 @@
 -- The steps of INC, DEC, NOT, NEG and XADD do what their rows do.
-use Rattle.std.proofs.Common.{◌≡◌, ℕ, ◌+◌, ◌-◌, ◌^◌, ◌<◌, Bool, true, false, refl, sym, ◌∙◌, subst, arith}
-use Rattle.std.specs.Prelude.{not}
+use Rattle.std.proofs.Common.{◌≡◌, ℕ, ◌+◌, ◌-◌, ◌^◌, ◌<◌, false, sym, ◌∙◌, subst, arith}
 use Rattle.word_arith.specs.Masks.{ones}
 use Rattle.alu_width.specs.declared.flags.Flags.{Flags}
 use Rattle.alu_width.specs.declared.flags.Outcome.{Outcome}
 use Rattle.alu_width.specs.Sums.{outcome, sum_outcome, difference_outcome}
 use Rattle.behavior.specs.Tree.{◌then◌}
 use Rattle.behavior.specs.Acts.{Permission}
-use Rattle.x64_syntax.specs.Formed.{IsStored, IsInRegister}
-use Rattle.x64_syntax.specs.Operands.{bits, is_in_memory}
+use Rattle.x64_syntax.specs.Formed.{IsRegister, IsStored}
+use Rattle.x64_syntax.specs.Operands.{bits}
 use Rattle.x64_syntax.specs.declared.instr.AluOp.TheVariants as op
 use Rattle.x64_syntax.specs.declared.instr.Instr.{Instr}
 use Rattle.x64_syntax.specs.declared.instr.Instr.TheVariants as instr
 use Rattle.x64_syntax.specs.declared.operand.Operand.{Operand}
 use Rattle.x64_syntax.specs.declared.operand.Operand.TheVariants as operand
+use Rattle.x64_syntax.specs.declared.operand.Reg.{Reg}
 use Rattle.x64_syntax.specs.declared.operand.Width.{Width}
 use Rattle.x64_syntax.specs.declared.operand.Width.TheVariants as width
 use Rattle.x64_table.specs.State.{Thread, register, set, with_flags}
@@ -35,15 +35,15 @@ use Rattle.lift_alu.proofs.KeptFormulas.{below_clean}
 use Rattle.lift_alu.proofs.Rules.{Does, Holds, holds_later, later_same, later_then, keeps_does}
 use Rattle.lift_alu.proofs.FlagRules.{ResultFlags, sets_result_does, sets_flags_does}
 use Rattle.lift_alu.proofs.OperandRules.{low_of_fit, low_below, fetches_does, puts_does, puts_ends, changes_does}
-use Rattle.lift_alu.proofs.Instructions.{has_flags, not_locked, Follows, Means}
+use Rattle.lift_alu.proofs.Instructions.{has_flags, Follows, Means}
 use Rattle.lift_alu.proofs.LiftedArithmetic.{Both, both_later, below_result, result_here, flags_does}
 
 -- results fit their width
-inc_below : (w : Width) (a : ℕ) (f : Flags) → (inc_outcome (bits w) a f).value < 2 ^ bits w
+pub inc_below : (w : Width) (a : ℕ) (f : Flags) → (inc_outcome (bits w) a f).value < 2 ^ bits w
 unfolding inc_outcome sum_outcome outcome
 inc_below w a f = low_below w (a + 1 + 0)
 
-dec_below : (w : Width) (a : ℕ) (f : Flags) → (dec_outcome (bits w) a f).value < 2 ^ bits w
+pub dec_below : (w : Width) (a : ℕ) (f : Flags) → (dec_outcome (bits w) a f).value < 2 ^ bits w
 unfolding dec_outcome difference_outcome outcome
 dec_below w a f = low_below w (a + (2 ^ bits w - (1 + 0)))
 
@@ -67,7 +67,8 @@ module _ (may : Permission) (table place after temps : ℕ) (fits : after < 2 ^ 
       (formula : Formula → Formula) (out : ℕ → Outcome) (below : (a : ℕ) → (out a).value < 2 ^ bits w) (kept : (n k : ℕ) → k < n → IsKeptBelow n (formula (Kept k)))
       (computes : (j : IrState) (k : ℕ) → j.temps k < 2 ^ bits w → value j (formula (Kept k)) ≡ (out (j.temps k)).value) where
     -- the value of the formula, where the operand's value is known
-    computed_here : (a : ℕ) → a < 2 ^ bits w → (k n : ℕ) (j : IrState) → Holds n j k a → IsKeptBelow n (formula (Kept k)) × (value j (formula (Kept k)) ≡ (out a).value) × ((out a).value < 2 ^ bits w)
+    pub computed_here : (a : ℕ) → a < 2 ^ bits w → (k n : ℕ) (j : IrState) → Holds n j k a → IsKeptBelow n (formula (Kept k)) ×
+        (value j (formula (Kept k)) ≡ (out a).value) × ((out a).value < 2 ^ bits w)
     computed_here a fit k n j holds = (
       kept n k holds.below,
       subst (λ x. value j (formula (Kept k)) ≡ (out x).value) holds.is (computes j k (subst (λ x. x < 2 ^ bits w) (sym holds.is) fit)),
@@ -78,13 +79,15 @@ module _ (may : Permission) (table place after temps : ℕ) (fits : after < 2 ^ 
     module _ (overflow : Formula → Formula → Formula) (kept_overflow : (n ka kr : ℕ) → ka < n → kr < n → IsKeptBelow n (overflow (Kept ka) (Kept kr)))
         (flags : (j : IrState) (ka kr : ℕ) → j.temps ka < 2 ^ bits w → j.temps kr ≡ (out (j.temps ka)).value → StepsOutcome w t.flags j (Kept ka) (Kept kr) (overflow (Kept ka) (Kept kr)) (out (j.temps ka)).flags) where
       -- the flags, where the operand's value is known
-      steps_here : (a : ℕ) → a < 2 ^ bits w → (ka kr n : ℕ) (j : IrState) → Holds n j ka a → Holds n j kr (out a).value → StepsOutcome w t.flags j (Kept ka) (Kept kr) (overflow (Kept ka) (Kept kr)) (out a).flags
+      pub steps_here : (a : ℕ) → a < 2 ^ bits w → (ka kr n : ℕ) (j : IrState) → Holds n j ka a → Holds n j kr (out a).value
+          → StepsOutcome w t.flags j (Kept ka) (Kept kr) (overflow (Kept ka) (Kept kr)) (out a).flags
       steps_here a fit ka kr n j old changed =
           subst (λ x. StepsOutcome w t.flags j (Kept ka) (Kept kr) (overflow (Kept ka) (Kept kr)) (out x).flags) old.is
           (flags j ka kr (subst (λ x. x < 2 ^ bits w) (sym old.is) fit) (subst (λ x. j.temps kr ≡ (out x).value) (sym old.is) changed.is))
 
       -- their formulas in every later state
-      step_flags : (a : ℕ) → a < 2 ^ bits w → (ka kr n : ℕ) (j : IrState) → Holds n j ka a → Holds n j kr (out a).value → ResultFlags n j w (overflow (Kept ka) (Kept kr)) (Kept kr) (out a).flags
+      pub step_flags : (a : ℕ) → a < 2 ^ bits w → (ka kr n : ℕ) (j : IrState) → Holds n j ka a → Holds n j kr (out a).value
+          → ResultFlags n j w (overflow (Kept ka) (Kept kr)) (Kept kr) (out a).flags
       step_flags a fit ka kr n j old changed = record {
         kept_overflow = kept_overflow n ka kr old.below changed.below;
         kept = changed.below;
@@ -103,19 +106,17 @@ module _ (may : Permission) (table place after temps : ℕ) (fits : after < 2 ^ 
           sets_result_does may (ends.Goto after) q t n j w (overflow (Kept ka) (Kept kr)) (Kept kr) (out a).flags rest same' (step_flags a fit ka kr n j old changed) (steps_here a fit ka kr n j old changed).cf go)
 
   -- INC
-  pub inc_means : (w : Width) (to : Operand) (locked : Bool) → not locked ≡ true → IsStored w to → Here (instr.Inc w to locked)
+  pub inc_means : (w : Width) (to : Operand) → IsStored w to → Here (instr.Inc w to false)
   unfolding acts lifts
-  inc_means w to true built is f t s at same = not_locked true built refl
-  inc_means w to false built is f t s at same =
+  inc_means w to is f t s at same =
       step_does w to is t s at same (λ a. clean w (Operation ops.Add a (Number 1))) (λ a. inc_outcome (bits w) a t.flags) (λ a. inc_below w a t.flags)
       (λ n k lt. below_clean n w (Operation ops.Add (Kept k) (Number 1)) (lt, tt)) (λ j k fit. value_inc w t.flags j (Kept k) fit)
       (λ a r. sum_overflow w a (Number 1) r) (λ n ka kr first second. (((first, second), (tt, second)), tt)) (λ j ka kr fit result. flags_inc w t.flags j (Kept ka) (Kept kr) fit result)
 
   -- DEC
-  pub dec_means : (w : Width) (to : Operand) (locked : Bool) → not locked ≡ true → IsStored w to → Here (instr.Dec w to locked)
+  pub dec_means : (w : Width) (to : Operand) → IsStored w to → Here (instr.Dec w to false)
   unfolding acts lifts
-  dec_means w to true built is f t s at same = not_locked true built refl
-  dec_means w to false built is f t s at same =
+  dec_means w to is f t s at same =
       step_does w to is t s at same (λ a. clean w (Operation ops.Sub a (Number 1))) (λ a. dec_outcome (bits w) a t.flags) (λ a. dec_below w a t.flags)
       (λ n k lt. below_clean n w (Operation ops.Sub (Kept k) (Number 1)) (lt, tt)) (λ j k fit. value_dec w t.flags j (Kept k) fit)
       (λ a r. difference_overflow w a (Number 1) r) (λ n ka kr first second. (((first, tt), (first, second)), tt)) (λ j ka kr fit result. flags_dec w t.flags j (Kept ka) (Kept kr) fit result)
@@ -152,10 +153,9 @@ module _ (may : Permission) (table place after temps : ℕ) (fits : after < 2 ^ 
       (record { kept = (tt, old.below); cf = λ m k later carry. (neg_here w a fit ka kr m k (holds_later later old) (holds_later later changed)).cf }) go)
 
   -- NOT
-  pub not_means : (w : Width) (to : Operand) (locked : Bool) → not locked ≡ true → IsStored w to → Here (instr.Not w to locked)
+  pub not_means : (w : Width) (to : Operand) → IsStored w to → Here (instr.Not w to false)
   unfolding acts lifts
-  not_means w to true built is f t s at same = not_locked true built refl
-  not_means w to false built is f t s at same =
+  not_means w to is f t s at same =
       changes_does may place after fits table w to t temps s (λ a. Operation ops.Xor a (Number (ones (bits w)))) (λ a r rest. rest) (not_value (bits w)) (λ a. t) same is at (λ a. at)
       (λ a fit k n j same' later holds. (
         (holds.below, tt),
@@ -165,18 +165,20 @@ module _ (may : Permission) (table place after temps : ℕ) (fits : after < 2 ^ 
       (λ a fit ka kr n j q rest same' later old changed go. go n j same' (later_same n j))
 
   -- XADD of two registers
-  pub xadd_means : (w : Width) (to from : Operand) (locked : Bool) → not locked ≡ true → IsStored w to × (IsInRegister w from × (locked ≡ is_in_memory to)) → Here (instr.Xadd w to from locked)
+  pub xadd_means : (w : Width) (r q : Reg) → IsRegister w r → IsRegister w q → Here (instr.Xadd w (operand.Reg r) (operand.Reg q) false)
   unfolding acts lifts xadd_row rows.changes rows.fetches rows.stores rows.puts holds adds_exchanged puts_operand set
-  xadd_means w (operand.Reg r) (operand.Reg q) false built formed f t s at same =
+  xadd_means w r q is held f t s at same =
       let end = ends.Goto after in
       let follows = Follows may table in
       let out = λ (a b : ℕ). alu_outcome op.Add (bits w) a b t.flags in
       let last = λ (a b : ℕ). leaves (set w r (out a b).value (set w q a (with_flags (out a b).flags t))) in
       fetches_does may place after fits follows end w (operand.Reg r) t temps s (λ a. last a (register w q t))
-      (λ a. lifted.fetches place after w (operand.Reg q) (λ b. keeps (result place after op.Add w a b) (λ n. flags_of place after op.Add w a b n (puts w q a (puts w r n done))))) same formed.0 at
+      (λ a. lifted.fetches place after w (operand.Reg q)
+      (λ b. keeps (result place after op.Add w a b) (λ n. flags_of place after op.Add w a b n (puts w q a (puts w r n done))))) same is at
       (λ a fit ka n1 i1 same1 later1 holds1.
       fetches_does may place after fits follows end w (operand.Reg q) t n1 i1 (λ b. last a b)
-      (λ b. keeps (result place after op.Add w (Kept ka) b) (λ n. flags_of place after op.Add w (Kept ka) b n (puts w q (Kept ka) (puts w r n done)))) same1 formed.1.0 at
+      (λ b. keeps (result place after op.Add w (Kept ka) b)
+      (λ n. flags_of place after op.Add w (Kept ka) b n (puts w q (Kept ka) (puts w r n done)))) same1 held at
       (λ b fit' kb n2 i2 same2 later2 holds2.
       let both : Both w n2 i2 ka kb a b = record { first = holds_later later2 holds1; second = holds2; fit = fit; fits = fit' } in
       let tree = last a b then follows in
@@ -188,13 +190,10 @@ module _ (may : Permission) (table place after temps : ℕ) (fits : after < 2 ^ 
       flags_does place after op.Add w may end tree t n3 i3 ka kb kr a b (puts w q (Kept ka) (puts w r (Kept kr) done)) same3 old holds3
       (λ n4 i4 same4 later4.
       let first = holds_later later4 old.first in
-      puts_does may end tree (with_flags (out a b).flags t) n4 i4 w q (Kept ka) a (puts w r (Kept kr) done) same4 formed.1.0 first.below (first.is ∙ low_of_fit w a fit)
+      puts_does may end tree (with_flags (out a b).flags t) n4 i4 w q (Kept ka) a (puts w r (Kept kr) done) same4 held first.below
+      (first.is ∙ low_of_fit w a fit)
       (λ n5 i5 same5 later5.
       let sum = holds_later (later_then later4 later5) holds3 in
-      puts_ends may place after fits table w r (set w q a (with_flags (out a b).flags t)) n5 i5 (Kept kr) (out a b).value same5 formed.0 at sum.below
+      puts_ends may place after fits table w r (set w q a (with_flags (out a b).flags t)) n5 i5 (Kept kr)
+      (out a b).value same5 is at sum.below
       (sum.is ∙ low_of_fit w (out a b).value (result_below place after op.Add w t.flags a b fit fit')))))))
-  xadd_means w (operand.Reg r) (operand.Reg q) true built formed f t s at same = not_locked true built refl
-  xadd_means w (operand.Reg r) (operand.Mem q) locked built formed f t s at same = absurd formed.1.0
-  xadd_means w (operand.Reg r) (operand.Imm q) locked built formed f t s at same = absurd formed.1.0
-  xadd_means w (operand.Mem m) from locked built formed f t s at same = not_locked locked built formed.1.1
-  xadd_means w (operand.Imm n) from locked built formed f t s at same = absurd formed.0

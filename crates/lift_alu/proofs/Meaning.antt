@@ -1,5 +1,5 @@
 -- The steps of an instruction do what its row does.
-use Rattle.std.proofs.Common.{◌≡◌, ℕ, ◌+◌, ◌%◌, ◌^◌, ◌<◌, true, [], refl, subst, arith}
+use Rattle.std.proofs.Common.{◌≡◌, ℕ, ◌+◌, ◌%◌, ◌^◌, ◌<◌, true, false, [], refl, subst, arith}
 use Rattle.behavior.specs.Tree.{◌then◌}
 use Rattle.behavior.specs.Acts.{Permission}
 use Rattle.behavior.specs.Leaving.{SameLeft}
@@ -10,6 +10,7 @@ use Rattle.behavior.proofs.SeenLemmas.{sees-placed_full}
 use Rattle.x64_syntax.specs.Formed.{IsFormed, IsFlowOf}
 use Rattle.x64_syntax.specs.declared.instr.Instr.{Instr}
 use Rattle.x64_syntax.specs.declared.instr.Instr.TheVariants as instr
+use Rattle.x64_syntax.specs.declared.operand.Operand.TheVariants as operand
 use Rattle.x64_syntax.specs.declared.placed.Flow.{Flow}
 use Rattle.x64_syntax.specs.declared.placed.Placed.{Placed}
 use Rattle.x64_table.specs.Blocks.{goes_on, x64_block}
@@ -26,15 +27,32 @@ use Rattle.lift_alu.proofs.LiftedMoves.{mov_means, lea_means, movzx_means, movsx
 use Rattle.lift_alu.proofs.LiftedStack.{push_means, pop_means, leave_means, ret_means, nop_means, pause_means, endbr_means, mfence_means, ud2_means}
 use Rattle.lift_alu.proofs.LiftedCalls.{call_means, jmp_means, jcc_means}
 use Rattle.lift_alu.proofs.LiftedArithmetic.{alu_means, test_means}
+use Rattle.lift_alu.proofs.LiftedShifts.{shift_means}
 use Rattle.lift_alu.proofs.LiftedSteps.{inc_means, dec_means, neg_means, not_means, xadd_means}
+use Rattle.lift_alu.proofs.LiftedLocks.{lock_alu_means, lock_inc_means, lock_dec_means, lock_not_means, swap_means, lock_xadd_means}
+use Rattle.lift_alu.proofs.LiftedLocks.{cmpxchg_means}
+use Rattle.lift_alu.proofs.OperandRules.{pair_stored}
+use Rattle.lift_alu.proofs.LiftedProducts.{mul_means, imul_one_means, imul_two_means, imul_three_means}
+use Rattle.lift_alu.proofs.LiftedQuotients.{div_means, idiv_means}
 
 module _ (may : Permission) (table place next temps : ℕ) (fits : next < 2 ^ 64) where
   -- the steps of each instruction that is lifted, with its flow, do what its row does
   each_with : (f : Flow) (i : Instr) → IsFormed i → is_lifted i ≡ true → IsFlowOf i f → MeansWith may table place next temps f i
   unfolding lifts_with
-  each_with f (instr.Alu o w to from locked) formed lifted flows = alu_means may table place next temps fits o w to from locked lifted formed.0 f
+  each_with f (instr.Alu o w to from true) formed lifted flows =
+      lock_alu_means may table place next temps fits o w to from formed.0 (formed.1.0 refl) (pair_stored w to from formed.0)
+      (formed.1.1 refl) f
+  each_with f (instr.Alu o w to from false) formed lifted flows = alu_means may table place next temps fits o w to from formed.0 f
   each_with f (instr.Test w to from) formed lifted flows = test_means may table place next temps fits w to from formed f
-  each_with f (instr.Xchg w to from locked) formed lifted flows = xchg_means may table place next temps fits w to from locked lifted formed f
+  each_with f (instr.Xchg w (operand.Mem m) from true) formed lifted flows =
+      swap_means may table place next temps fits w m from formed.0 formed.1.0 f
+  each_with f (instr.Xchg w (operand.Mem m) from false) formed lifted flows = absurd (let free = formed.1.1 in cc)
+  each_with f (instr.Xchg w (operand.Reg r) (operand.Reg q) false) formed lifted flows =
+      xchg_means may table place next temps fits w r q formed.0 formed.1.0 f
+  each_with f (instr.Xchg w (operand.Reg r) from true) formed lifted flows = absurd (let locks = formed.1.1 in cc)
+  each_with f (instr.Xchg w (operand.Reg r) (operand.Mem m) false) formed lifted flows = absurd formed.1.0
+  each_with f (instr.Xchg w (operand.Reg r) (operand.Imm n) false) formed lifted flows = absurd formed.1.0
+  each_with f (instr.Xchg w (operand.Imm n) from locked) formed lifted flows = absurd formed.0
   each_with f (instr.Mov w to from) formed lifted flows = mov_means may table place next temps fits w to from formed f
   each_with f (instr.Lea w to from) formed lifted flows = lea_means may table place next temps fits w to from formed f
   each_with f (instr.MovZx w v to from) formed lifted flows = movzx_means may table place next temps fits w v to from formed f
@@ -49,11 +67,31 @@ module _ (may : Permission) (table place next temps : ℕ) (fits : next < 2 ^ 64
   each_with f (instr.Jcc c d) formed lifted flows = jcc_means may table place next temps fits f c d formed.0
   each_with f (instr.SetCc c to) formed lifted flows = setcc_means may table place next temps fits c to formed f
   each_with f (instr.CmovCc c w to from) formed lifted flows = cmovcc_means may table place next temps fits c w to from formed f
-  each_with f (instr.Inc w to locked) formed lifted flows = inc_means may table place next temps fits w to locked lifted formed.0 f
-  each_with f (instr.Dec w to locked) formed lifted flows = dec_means may table place next temps fits w to locked lifted formed.0 f
-  each_with f (instr.Not w to locked) formed lifted flows = not_means may table place next temps fits w to locked lifted formed.0 f
+  each_with f (instr.Inc w to true) formed lifted flows = lock_inc_means may table place next temps fits w to formed.0 (formed.1 refl) f
+  each_with f (instr.Inc w to false) formed lifted flows = inc_means may table place next temps fits w to formed.0 f
+  each_with f (instr.Dec w to true) formed lifted flows = lock_dec_means may table place next temps fits w to formed.0 (formed.1 refl) f
+  each_with f (instr.Dec w to false) formed lifted flows = dec_means may table place next temps fits w to formed.0 f
+  each_with f (instr.Not w to true) formed lifted flows = lock_not_means may table place next temps fits w to formed.0 (formed.1 refl) f
+  each_with f (instr.Not w to false) formed lifted flows = not_means may table place next temps fits w to formed.0 f
   each_with f (instr.Neg w to) formed lifted flows = neg_means may table place next temps fits w to formed f
-  each_with f (instr.Xadd w to from locked) formed lifted flows = xadd_means may table place next temps fits w to from locked lifted formed f
+  each_with f (instr.Xadd w (operand.Mem m) from true) formed lifted flows =
+      lock_xadd_means may table place next temps fits w m from formed.0 formed.1.0 f
+  each_with f (instr.Xadd w (operand.Mem m) from false) formed lifted flows = absurd (let free = formed.1.1 in cc)
+  each_with f (instr.Xadd w (operand.Reg r) (operand.Reg q) false) formed lifted flows =
+      xadd_means may table place next temps fits w r q formed.0 formed.1.0 f
+  each_with f (instr.Xadd w (operand.Reg r) from true) formed lifted flows = absurd (let locks = formed.1.1 in cc)
+  each_with f (instr.Xadd w (operand.Reg r) (operand.Mem m) false) formed lifted flows = absurd formed.1.0
+  each_with f (instr.Xadd w (operand.Reg r) (operand.Imm n) false) formed lifted flows = absurd formed.1.0
+  each_with f (instr.Xadd w (operand.Imm n) from locked) formed lifted flows = absurd formed.0
+  each_with f (instr.Cmpxchg w to from locked) formed lifted flows =
+      cmpxchg_means may table place next temps fits w to from locked formed.0 formed.1.0 f
+  each_with f (instr.Mul w from) formed lifted flows = mul_means may table place next temps fits w from formed f
+  each_with f (instr.ImulOne w from) formed lifted flows = imul_one_means may table place next temps fits w from formed f
+  each_with f (instr.Div w from) formed lifted flows = div_means may table place next temps fits w from formed f
+  each_with f (instr.Idiv w from) formed lifted flows = idiv_means may table place next temps fits w from formed f
+  each_with f (instr.ImulTwo w to from) formed lifted flows = imul_two_means may table place next temps fits w to from formed f
+  each_with f (instr.ImulThree w to from by) formed lifted flows = imul_three_means may table place next temps fits w to from by formed f
+  each_with f (instr.Shift o w to by) formed lifted flows = shift_means may table place next temps fits o w to by formed f
   each_with f (instr.Widen w) formed lifted flows = widen_means may table place next temps fits w f
   each_with f (instr.SignFill w) formed lifted flows = signfill_means may table place next temps fits w formed f
   each_with f instr.Nop formed lifted flows = nop_means may table place next temps fits f

@@ -67,7 +67,7 @@ pair_fetched w to from (inr (inl both)) = fetched_stored w from both.1
 pair_fetched w to from (inr (inr both)) = fetched_number w from both.1
 
 -- what bytes of a width hold
-width_bytes : (w : Width) → 256 ^ bytes w ≡ 2 ^ bits w
+pub width_bytes : (w : Width) → 256 ^ bytes w ≡ 2 ^ bits w
 width_bytes width.Byte = refl
 width_bytes width.Word = refl
 width_bytes width.Long = refl

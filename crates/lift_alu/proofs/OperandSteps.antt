@@ -65,6 +65,12 @@ fetch_most (operand.Reg r) = omega arith
 fetch_most (operand.Mem m) = omega arith
 fetch_most (operand.Imm n) = omega arith
 
+-- a register is fetched at less cost
+pub fetch_register : (w : Width) (o : Operand) → IsInRegister w o → fetch_price o ≤ 5
+fetch_register w (operand.Reg r) is = omega arith
+fetch_register w (operand.Mem m) is = elim is [ ]
+fetch_register w (operand.Imm n) is = elim is [ ]
+
 -- what is kept takes no room of its own
 pub kept_in_three : (live : List ℕ) (t : ℕ) → Among live t → Within live 3 0 (Kept t)
 kept_in_three live t among = within_more (omega arith) (omega arith) (kept_within live t among)

@@ -44,7 +44,7 @@ pub later_then : {next : ℕ} {i : IrState} {next' : ℕ} {i' : IrState} {next''
 later_then one two = record { le = omega (arith, one.le, two.le); temps = λ t lt. two.temps t (omega (arith, one.le, lt)) ∙ one.temps t lt }
 
 -- the temporaries of a thread's steps are free
-same_temps : (s : Thread) (i : IrState) (temps : Bank) → SameThread s i → SameThread s (record i { temps = temps })
+pub same_temps : (s : Thread) (i : IrState) (temps : Bank) → SameThread s i → SameThread s (record i { temps = temps })
 same_temps s i temps same = record { regs = same.regs; fit = same.fit; cf = same.cf; zf = same.zf; sf = same.sf; of = same.of }
 
 -- a register gets a value on both sides
@@ -124,7 +124,7 @@ module _ (may : Permission) (end : IrEnd) where
   LaterWith q s next i v rest = (t next' : ℕ) (i' : IrState) → SameThread s i' → IsLater next i next' i' → Holds next' i' t v → Does q (rest (Kept t) next') i'
 
   -- the steps of a formula make no items
-  does_computed : (q : Tree (Next (Left Thread))) (next : ℕ) (e : Formula) (xs : List IrStep) (i : IrState) → Does q xs (computed next e i) → Does q (computes next e ++ xs) i
+  pub does_computed : (q : Tree (Next (Left Thread))) (next : ℕ) (e : Formula) (xs : List IrStep) (i : IrState) → Does q xs (computed next e i) → Does q (computes next e ++ xs) i
   does_computed q next e xs i here =
       subst (λ t. Beside placed_full 0 (SameNext (SameLeft SameThread)) 0 q (t then ir_end end)) (sym (computes_then may next e xs i)) here
 

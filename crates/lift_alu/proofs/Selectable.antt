@@ -1,5 +1,5 @@
 -- The steps of an instruction cost little, use their own temporaries, and have few of them live.
-use Rattle.std.proofs.Common.{◌≡◌, ℕ, ◌+◌, ◌^◌, ◌<◌, ◌≤◌, true, List, [], ◌∷◌, length, refl, inl, inr, ◌⊎◌, arith}
+use Rattle.std.proofs.Common.{◌≡◌, ℕ, ◌+◌, ◌^◌, ◌<◌, ◌≤◌, true, false, List, [], ◌∷◌, length, refl, inl, inr, ◌⊎◌, arith}
 use Rattle.word_arith.specs.Masks.{ones}
 use Rattle.x64_syntax.specs.Formed.{IsFormed, IsFlowOf, IsStored, IsNumber, IsInRegister, IsInMemory}
 use Rattle.x64_syntax.specs.Operands.{bits}
@@ -30,8 +30,15 @@ use Rattle.lift_alu.specs.Meant.{end_from, led_to, words_of, SetsFrom}
 use Rattle.lift_alu.proofs.Tame.{Among, Tame, tame_more, ended, acting, tame_cost, tame_well, tame_sets, tame_once, tame_few}
 use Rattle.lift_alu.proofs.Modest.{ordinary, own_one, Within}
 use Rattle.lift_alu.proofs.Bounds.{number_most, number_within, kept_within, small_within, clean_within, with_sign_within, register_within, address_within, top_within, result_within, sum_overflow_within, difference_overflow_within, condition_within}
+use Rattle.lift_alu.proofs.Bounds.{one_within, by_one_within}
 use Rattle.lift_alu.proofs.Liftings.{TameLifting, less_live, done_tame, keeps_at, keeps_tame, sets_register_tame, loads_at, loads_tame, stores_tame, sets_result_tame, sets_flags_tame}
 use Rattle.lift_alu.proofs.OperandSteps.{Reached, reached_stored, reached_register, reached_number, reached_pair, fetch_price, fetch_most, puts_tame, fetches_tame, moves_tame, kept_in_three, puts_operand_tame, puts_kept_operand_tame, flags_tame, changes_tame}
+use Rattle.lift_alu.proofs.OperandSteps.{fetch_register}
+use Rattle.lift_alu.proofs.LockSteps.{combines_locked_tame, increments_locked_tame, decrements_locked_tame, inverts_locked_tame, swaps_tame}
+use Rattle.lift_alu.proofs.LockSteps.{adds_locked_tame, compares_locked_tame}
+use Rattle.lift_alu.proofs.ProductSteps.{multiplies_tame, multiplies_into_tame}
+use Rattle.lift_alu.proofs.QuotientSteps.{divides_tame}
+use Rattle.lift_alu.proofs.ShiftSteps.{shifts_tame}
 
 -- the stack pointer, or the frame's, eight bytes further up or down
 above : (live : List ℕ) (r : ℕ) → r < 16 → Within live 3 3 (Operation ops.Add (Register r) (Number 8))
@@ -43,12 +50,6 @@ below live r is = record { sound = (is, tt, ordinary (λ k. tt)); in_room = omeg
 -- what is in a register
 pointer_within : (live : List ℕ) (r : ℕ) → r < 16 → Within live 1 1 (Register r)
 pointer_within live r is = record { sound = is; in_room = omega arith; in_price = omega arith }
-
--- a register is fetched at less cost
-fetch_register : (w : Width) (o : Operand) → IsInRegister w o → fetch_price o ≤ 5
-fetch_register w (operand.Reg r) is = omega arith
-fetch_register w (operand.Mem m) is = elim is [ ]
-fetch_register w (operand.Imm n) is = elim is [ ]
 
 -- what is pushed
 reached_pushed : (o : Operand) → (IsStored width.Quad o ⊎ IsNumber width.Quad o) → Reached o
@@ -178,22 +179,10 @@ module _ (at after goal : ℕ) where
 
   -- one operand that changes
 
-  -- the number 1
-  one_within : (live : List ℕ) → Within live 1 1 (Number 1)
-  one_within live = small_within live 1 (omega arith)
-
-  -- a value of the width, one more or less
-  by_one : (o : IrOp) → ((k : Known) → HasConstant o k) → op_cost o ≤ 1 → (w : Width) (seen : List ℕ) (a : ℕ) → Among seen a
-      → Within seen 3 5 (clean w (Operation o (Kept a) (Number 1)))
-  by_one o plain cheap w seen a in_a = clean_within seen w _ (omega arith) counted
-    where
-      counted : Within seen 3 3 (Operation o (Kept a) (Number 1))
-      counted = record { sound = (in_a, tt, ordinary plain); in_room = omega arith; in_price = omega (arith, cheap) }
-
   increases_tame : (w : Width) (to : Operand) → Reached to
       → Few (changes at after w to (λ a. clean w (Operation ops.Add a (Number 1))) (λ a r. sets_result w (sum_overflow w a (Number 1) r) r))
   increases_tame w to is =
-      changes_tame goto at after [] w _ _ (omega arith) (λ seen a grows in_a. by_one ops.Add (λ k. tt) (omega arith) w seen a in_a)
+      changes_tame goto at after [] w _ _ (omega arith) (λ seen a grows in_a. by_one_within seen ops.Add (λ k. tt) (omega arith) w a in_a)
       (λ a r most left rest cost tame. sets_result_tame goto (r ∷ a ∷ []) w r _ (omega arith) (inl refl) (overflow a r) most left rest (omega (arith, cost)) tame)
       nothing_left to 62 is (omega arith)
     where
@@ -203,7 +192,7 @@ module _ (at after goal : ℕ) where
   decreases_tame : (w : Width) (to : Operand) → Reached to
       → Few (changes at after w to (λ a. clean w (Operation ops.Sub a (Number 1))) (λ a r. sets_result w (difference_overflow w a (Number 1) r) r))
   decreases_tame w to is =
-      changes_tame goto at after [] w _ _ (omega arith) (λ seen a grows in_a. by_one ops.Sub (λ k. tt) (omega arith) w seen a in_a)
+      changes_tame goto at after [] w _ _ (omega arith) (λ seen a grows in_a. by_one_within seen ops.Sub (λ k. tt) (omega arith) w a in_a)
       (λ a r most left rest cost tame. sets_result_tame goto (r ∷ a ∷ []) w r _ (omega arith) (inl refl) (overflow a r) most left rest (omega (arith, cost)) tame)
       nothing_left to 62 is (omega arith)
     where
@@ -345,11 +334,17 @@ condition_tame code temps goal next =
 lifts_with_tame : (at after next_address temps : ℕ) (f : Flow) (i : Instr) → IsFormed i → is_lifted i ≡ true → IsFlowOf i f
     → Tame (end_from i f next_address temps) [] temps (words_of i) (lifts_with at after f i temps)
 unfolding lifts lifts_with pops
-lifts_with_tame at after next temps f (instr.Alu o w to from locked) formed lifted flows =
+lifts_with_tame at after next temps f (instr.Alu o w to from true) formed lifted flows =
+    combines_locked_tame at after next o w to from (formed.1.0 refl) formed.0 temps
+lifts_with_tame at after next temps f (instr.Alu o w to from false) formed lifted flows =
     let is = reached_pair w to from formed.0 in alu_tame at after next o w to from is.0 is.1 temps
 lifts_with_tame at after next temps f (instr.Test w to from) formed lifted flows =
     let is = reached_pair w to from formed in compares_tame at after next op.And w to from is.0 is.1 temps
-lifts_with_tame at after next temps f (instr.Xchg w to from locked) formed lifted flows =
+lifts_with_tame at after next temps f (instr.Xchg w (operand.Mem m) from true) formed lifted flows =
+    swaps_tame at after next w m from formed.0 formed.1.0 temps
+lifts_with_tame at after next temps f (instr.Xchg w (operand.Reg r) from true) formed lifted flows = absurd (let locks = formed.1.1 in cc)
+lifts_with_tame at after next temps f (instr.Xchg w (operand.Imm n) from true) formed lifted flows = absurd formed.0
+lifts_with_tame at after next temps f (instr.Xchg w to from false) formed lifted flows =
     exchanges_tame at after next w to from (reached_stored w to formed.0) (reached_register w from formed.1.0) temps
 lifts_with_tame at after next temps f (instr.Mov w to from) formed lifted flows =
     let is = reached_pair w to from formed in copies_tame at after next w to from is.0 is.1 temps
@@ -372,12 +367,43 @@ lifts_with_tame at after next temps f (instr.SetCc c to) formed lifted flows =
     sets_condition_tame at after next c.code to (reached_stored width.Byte to formed.1) temps
 lifts_with_tame at after next temps f (instr.CmovCc c w to from) formed lifted flows =
     chooses_tame at after next c.code w to from (reached_register w to formed.1.1.0) (reached_stored w from formed.1.1.1) temps
-lifts_with_tame at after next temps f (instr.Inc w to locked) formed lifted flows = increases_tame at after next w to (reached_stored w to formed.0) temps
-lifts_with_tame at after next temps f (instr.Dec w to locked) formed lifted flows = decreases_tame at after next w to (reached_stored w to formed.0) temps
-lifts_with_tame at after next temps f (instr.Not w to locked) formed lifted flows = turns_tame at after next w to (reached_stored w to formed.0) temps
+lifts_with_tame at after next temps f (instr.Inc w to true) formed lifted flows =
+    increments_locked_tame at after next w to (formed.1 refl) (reached_stored w to formed.0) temps
+lifts_with_tame at after next temps f (instr.Inc w to false) formed lifted flows =
+    increases_tame at after next w to (reached_stored w to formed.0) temps
+lifts_with_tame at after next temps f (instr.Dec w to true) formed lifted flows =
+    decrements_locked_tame at after next w to (formed.1 refl) (reached_stored w to formed.0) temps
+lifts_with_tame at after next temps f (instr.Dec w to false) formed lifted flows =
+    decreases_tame at after next w to (reached_stored w to formed.0) temps
+lifts_with_tame at after next temps f (instr.Not w to true) formed lifted flows =
+    inverts_locked_tame at after next w to (formed.1 refl) (reached_stored w to formed.0) temps
+lifts_with_tame at after next temps f (instr.Not w to false) formed lifted flows =
+    turns_tame at after next w to (reached_stored w to formed.0) temps
 lifts_with_tame at after next temps f (instr.Neg w to) formed lifted flows = negates_tame at after next w to (reached_stored w to formed) temps
-lifts_with_tame at after next temps f (instr.Xadd w to from locked) formed lifted flows =
+lifts_with_tame at after next temps f (instr.Xadd w (operand.Mem m) from true) formed lifted flows =
+    adds_locked_tame at after next w m from formed.0 formed.1.0 temps
+lifts_with_tame at after next temps f (instr.Xadd w (operand.Reg r) from true) formed lifted flows = absurd (let locks = formed.1.1 in cc)
+lifts_with_tame at after next temps f (instr.Xadd w (operand.Imm n) from true) formed lifted flows = absurd formed.0
+lifts_with_tame at after next temps f (instr.Xadd w to from false) formed lifted flows =
     adds_exchanged_tame at after next w to from (reached_stored w to formed.0) formed.1.0 temps
+lifts_with_tame at after next temps f (instr.Cmpxchg w to from locked) formed lifted flows =
+    compares_locked_tame at after next w to from formed.0 formed.1.0 temps
+lifts_with_tame at after next temps f (instr.Mul w from) formed lifted flows =
+    multiplies_tame at after next false w from (reached_stored w from formed) temps
+lifts_with_tame at after next temps f (instr.ImulOne w from) formed lifted flows =
+    multiplies_tame at after next true w from (reached_stored w from formed) temps
+lifts_with_tame at after next temps f (instr.Div w from) formed lifted flows =
+    divides_tame at after next false w from (reached_stored w from formed.1) temps
+lifts_with_tame at after next temps f (instr.Idiv w from) formed lifted flows =
+    divides_tame at after next true w from (reached_stored w from formed.1) temps
+lifts_with_tame at after next temps f (instr.ImulTwo w to from) formed lifted flows =
+    let is = reached_register w to formed.1.0 in multiplies_into_tame at after next w to to from is is
+    (reached_stored w from formed.1.1) temps
+lifts_with_tame at after next temps f (instr.ImulThree w to from by) formed lifted flows =
+    multiplies_into_tame at after next w to from by (reached_register w to formed.1.0) (reached_stored w from formed.1.1.0)
+    (reached_number w by formed.1.1.1) temps
+lifts_with_tame at after next temps f (instr.Shift o w to by) formed lifted flows =
+    shifts_tame (ends.Goto next) at after (nothing_left at after next) w to (reached_stored w to formed.0) o by formed.1 temps
 lifts_with_tame at after next temps f (instr.Widen w) formed lifted flows = widens_tame at after next w temps
 lifts_with_tame at after next temps f (instr.SignFill w) formed lifted flows = fills_tame at after next w temps
 lifts_with_tame at after next temps f instr.Nop formed lifted flows = ended tt tt

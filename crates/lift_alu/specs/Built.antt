@@ -1,13 +1,13 @@
 -- The instructions that are lifted.
-use Rattle.std.specs.Prelude.{Bool, true, false, not}
+use Rattle.std.specs.Prelude.{Bool, true, false}
 use Rattle.x64_syntax.specs.declared.instr.Instr.{Instr}
 use Rattle.x64_syntax.specs.declared.instr.Instr.TheVariants as instr
 
--- whether an instruction is lifted: none that is locked, multiplies, divides or shifts, and no indirect call or jump
+-- whether an instruction is lifted: every one but an indirect call or jump
 abbrev pub is_lifted : Instr → Bool
-is_lifted (instr.Alu o w to from locked) = not locked
+is_lifted (instr.Alu o w to from locked) = true
 is_lifted (instr.Test w to from) = true
-is_lifted (instr.Xchg w to from locked) = not locked
+is_lifted (instr.Xchg w to from locked) = true
 is_lifted (instr.Mov w to from) = true
 is_lifted (instr.Lea w to from) = true
 is_lifted (instr.MovZx w v to from) = true
@@ -22,11 +22,19 @@ is_lifted (instr.Jmp d) = true
 is_lifted (instr.Jcc c d) = true
 is_lifted (instr.SetCc c to) = true
 is_lifted (instr.CmovCc c w to from) = true
-is_lifted (instr.Inc w to locked) = not locked
-is_lifted (instr.Dec w to locked) = not locked
-is_lifted (instr.Not w to locked) = not locked
+is_lifted (instr.Inc w to locked) = true
+is_lifted (instr.Dec w to locked) = true
+is_lifted (instr.Not w to locked) = true
 is_lifted (instr.Neg w to) = true
-is_lifted (instr.Xadd w to from locked) = not locked
+is_lifted (instr.Xadd w to from locked) = true
+is_lifted (instr.Cmpxchg w to from locked) = true
+is_lifted (instr.Mul w from) = true
+is_lifted (instr.ImulOne w from) = true
+is_lifted (instr.Div w from) = true
+is_lifted (instr.Idiv w from) = true
+is_lifted (instr.ImulTwo w to from) = true
+is_lifted (instr.ImulThree w to from by) = true
+is_lifted (instr.Shift o w to by) = true
 is_lifted (instr.Widen w) = true
 is_lifted (instr.SignFill w) = true
 is_lifted instr.Nop = true

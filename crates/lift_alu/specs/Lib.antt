@@ -1,6 +1,11 @@
 pub mod Formulas
 pub mod Operands
 pub mod Flags
+pub mod Locks
+pub mod Products
+pub mod Quotients
+pub mod Shifts
+pub mod Turns
 pub mod Lifted
 pub mod Built
 pub mod Marks

@@ -1,6 +1,5 @@
 -- What it means that steps do what an instruction does.
 use Rattle.std.specs.Prelude.{◌≡◌, ℕ, ◌+◌, ◌%◌, ◌^◌, ◌<◌, ◌≤◌, List, [], ◌∷◌, flat_map}
-use Rattle.std.specs.List.{AllByRecursion}
 use Rattle.ev_graph.specs.declared.events.TrapKind.TheVariants.{Invalid}
 use Rattle.word_arith.specs.Bits.{bit}
 use Rattle.behavior.specs.Acts.{Permission}
@@ -15,7 +14,7 @@ use Rattle.x64_syntax.specs.declared.placed.Placed.{Placed}
 use Rattle.x64_syntax.specs.Slots.{placed_slots}
 use Rattle.x64_table.specs.State.{Thread}
 use Rattle.x64_table.specs.Blocks.{x64_block}
-use Rattle.limm_ir.specs.Conditions.{IsSetIn, IsUnlocked, IsSelectable}
+use Rattle.limm_ir.specs.Conditions.{IsSetIn, IsSelectable}
 use Rattle.limm_ir.specs.Costs.{cost_of, fenced_cost}
 use Rattle.limm_ir.specs.Steps.{IrState}
 use Rattle.limm_ir.specs.Blocks.{ir_block}
@@ -79,13 +78,12 @@ LiftsInstr most p temps steps = (may : Permission) (table : ℕ) (s : Thread) (i
 abbrev pub SetsFrom : (temps : ℕ) → List IrStep → Type 0
 SetsFrom temps xs = (t : ℕ) → IsSetIn xs t → (temps ≤ t) × (t < temps + 256)
 
--- These are the steps of an instruction: they do what it does, cost little, use temporaries of its own, and lock nothing. They
--- make its accesses, in their order, and have its fence.
+-- These are the steps of an instruction: they do what it does, cost little, and use temporaries of its own. They make its accesses,
+-- in their order, and have its fence.
 pub record AreStepsOf (p : Placed) (temps : ℕ) (steps : List IrStep) : Type 0 where
   pub meaning : LiftsInstr 62 p temps steps
   pub few : cost_of fenced_cost steps ≤ most_words p
   pub selectable : IsSelectable steps (end_of p temps)
   pub own : SetsFrom temps steps
-  pub unlocked : AllByRecursion IsUnlocked steps
   pub slots : flat_map step_slots steps ≡ placed_slots p
   pub fences : flat_map step_fences steps ≡ instr_fences p.instr

@@ -1,8 +1,7 @@
 ghost use Rattle.std.specs.Prelude.{◌≡◌, ◌≤◌, ◌^◌, true, ◌++◌, IfOk, OnOk, flat_map};
-ghost use Rattle.std.specs.List.{AllByRecursion};
 ghost use Rattle.x64_syntax.specs.Formed.{IsFormed, IsFlowOf};
 ghost use Rattle.x64_syntax.specs.Slots.{placed_slots};
-ghost use Rattle.limm_ir.specs.Conditions.{IsSelectable, IsUnlocked};
+ghost use Rattle.limm_ir.specs.Conditions.{IsSelectable};
 ghost use Rattle.limm_ir.specs.Costs.{cost_of, fenced_cost};
 ghost use Rattle.lift_alu.specs.Built.{is_lifted};
 ghost use Rattle.lift_alu.specs.Formulas.{done};
@@ -32,7 +31,6 @@ pub fn lift_instr(alloc: Global, placed: &Placed, temps: u32) -> Result<SmallSte
     ensures few { IfOk result (λ xs. cost_of fenced_cost xs ≤ most_words placed.now) }
     ensures selectable { IfOk result (λ xs. IsSelectable xs (end_of placed.now temps)) }
     ensures own { IfOk result (λ xs. SetsFrom temps xs) }
-    ensures unlocked { IfOk result (λ xs. AllByRecursion IsUnlocked xs) }
     ensures slots { IfOk result (λ xs. flat_map step_slots xs ≡ placed_slots placed.now) }
     ensures fences { IfOk result (λ xs. flat_map step_fences xs ≡ instr_fences placed.now.instr) }
 {
@@ -61,9 +59,16 @@ impl Builder {
         ensures { OnOk result (so_far self.old (lifts_with site.at site.after flow instr.now) ≡ so_far self.new done) }
     {
         match instr {
-            Instr::Alu(op, width, to, from, _) => self.lift_alu(site, *op, *width, to, from),
+            Instr::Alu(_, _, _, _, true)
+            | Instr::Xchg(_, _, _, true)
+            | Instr::Inc(_, _, true)
+            | Instr::Dec(_, _, true)
+            | Instr::Not(_, _, true)
+            | Instr::Xadd(_, _, _, true)
+            | Instr::Cmpxchg(_, _, _, _) => self.lift_locked(site, instr),
+            Instr::Alu(op, width, to, from, false) => self.lift_alu(site, *op, *width, to, from),
             Instr::Test(width, to, from) => self.compare(site, AluOp::And, *width, to, from),
-            Instr::Xchg(width, to, from, _) => self.exchange(site, *width, to, from),
+            Instr::Xchg(width, to, from, false) => self.exchange(site, *width, to, from),
             Instr::Mov(width, to, from) => self.copy(site, *width, to, from),
             Instr::Lea(width, to, from) => self.take_address(site, *width, to, from),
             Instr::MovZx(width, narrow, to, from) => self.widen_by_zeros(
@@ -81,27 +86,26 @@ impl Builder {
             Instr::CmovCc(condition, width, to, from) => self.copy_if(
                 site, *condition, *width, to, from,
             ),
-            Instr::Inc(width, to, _) => self.increment(site, *width, to),
-            Instr::Dec(width, to, _) => self.decrement(site, *width, to),
-            Instr::Not(width, to, _) => self.invert(site, *width, to),
+            Instr::Inc(width, to, false) => self.increment(site, *width, to),
+            Instr::Dec(width, to, false) => self.decrement(site, *width, to),
+            Instr::Not(width, to, false) => self.invert(site, *width, to),
             Instr::Neg(width, to) => self.negate(site, *width, to),
-            Instr::Xadd(width, to, from, _) => self.add_exchanged(site, *width, to, from),
+            Instr::Xadd(width, to, from, false) => self.add_exchanged(site, *width, to, from),
+            Instr::Shift(op, width, to, by) => self.shift(site, *op, *width, to, by),
             Instr::Widen(width) => self.widen_accumulator(site, *width),
             Instr::SignFill(width) => self.fill_with_sign(site, *width),
+            Instr::Mul(width, from) => self.multiply(site, false, *width, from),
+            Instr::ImulOne(width, from) => self.multiply(site, true, *width, from),
+            Instr::Div(width, from) => self.divide(site, false, *width, from),
+            Instr::Idiv(width, from) => self.divide(site, true, *width, from),
+            Instr::ImulTwo(width, to, from) => self.multiply_into(site, *width, to, to, from),
+            Instr::ImulThree(width, to, from, by) => self.multiply_into(site, *width, to, from, by),
             Instr::Mfence => self.push(IrStep::Fence(IrFence::Fsc)),
             Instr::Call(_) => self.call(site, flow),
             Instr::Jmp(_) => self.jump(site, flow),
             Instr::Jcc(condition, _) => self.keep_condition(*condition),
             Instr::CallInd(_)
             | Instr::JmpInd(_)
-            | Instr::Mul(_, _)
-            | Instr::ImulOne(_, _)
-            | Instr::Div(_, _)
-            | Instr::Idiv(_, _)
-            | Instr::ImulTwo(_, _, _)
-            | Instr::ImulThree(_, _, _, _)
-            | Instr::Shift(_, _, _, _)
-            | Instr::Cmpxchg(_, _, _, _)
             | Instr::Nop
             | Instr::Pause
             | Instr::Endbr

@@ -15,12 +15,12 @@ use ev_graph::NoMemory;
 use limm_ir::{IrOp, Temp};
 use x64_syntax::{Cond, Operand, Reg, Width};
 
-const RAX: Reg = Reg {
+pub(crate) const RAX: Reg = Reg {
     number: 0,
     high: false,
 };
 
-const RDX: Reg = Reg {
+pub(crate) const RDX: Reg = Reg {
     number: 2,
     high: false,
 };

@@ -16,7 +16,7 @@ use limm_ir::{IrOp, Temp};
 use x64_syntax::{Operand, Width};
 
 /// Ones at each bit of a width.
-fn mask(width: Width) -> u64
+pub(crate) fn mask(width: Width) -> u64
     ensures { result ≡ ones (bits_of width) }
 {
     match width {

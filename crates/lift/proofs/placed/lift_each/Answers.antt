@@ -10,7 +10,6 @@ loop-one-preserved c =
       few = c.in_ok-lifted.ensures.few;
       selectable = c.in_ok-lifted.ensures.selectable;
       own = c.in_ok-lifted.ensures.own;
-      unlocked = c.in_ok-lifted.ensures.unlocked;
       slots = c.in_ok-lifted.ensures.slots;
       fences = c.in_ok-lifted.ensures.fences;
     } in

@@ -1,6 +1,5 @@
 use Rattle.lift_alu.specs.Meant.{after}
 use Rattle.lift_alu.proofs.Lifting.{lifts_counted}
-use Rattle.lift_alu.proofs.Unlocked.{lifts_with_unlocked}
 use Rattle.lift_alu.proofs.Marked.{lifts_slots, lifts_fences}
 use Rattle.lift_alu.proofs.Selectable.{lifts_few, lifts_own, lifts_selectable}
 use Rattle.lift_alu.proofs.lift.lift_instr.Goals as goal
@@ -22,11 +21,6 @@ pub returns-clause-own : goal.returns-clause-own
 returns-clause-own c =
     let p = c.args.placed.now in
     rw c.in_ok-lifted.ensures (lifts_own p.address (after p) c.args.temps p.flow p.instr c.requires.formed c.requires.lifted c.requires.flow)
-
-pub returns-clause-unlocked : goal.returns-clause-unlocked
-returns-clause-unlocked c =
-    let p = c.args.placed.now in
-    rw c.in_ok-lifted.ensures (lifts_with_unlocked p.address (after p) p.flow p.instr c.args.temps)
 
 pub returns-clause-slots : goal.returns-clause-slots
 returns-clause-slots c =

@@ -1,0 +1,8 @@
+use Rattle.std.proofs.Common.{◌∙◌}
+use Rattle.lift_alu.specs.Formulas.{done}
+use Rattle.lift_alu.specs.Lifted.{puts_parts}
+use Rattle.lift_alu.proofs.builder.Builder.put_parts.Goals as goal
+
+pub returns : goal.returns
+unfolding puts_parts
+returns c = c.in_ok-set_zeros.ensures _ ∙ c.in_ok-put.ensures _ ∙ c.in_ok-put-2.ensures done

@@ -1,0 +1,10 @@
+use Rattle.std.proofs.Common.{◌∙◌}
+use Rattle.lift_alu.specs.Formulas.{done}
+use Rattle.lift_alu.specs.Lifted.{changes, rewrites}
+use Rattle.lift_alu.proofs.builder.Builder.rewrite.Goals as goal
+
+pub returns : goal.returns
+unfolding rewrites changes
+returns c =
+    c.in_ok-change.ensures _ ∙ c.in_ok-same.ensures _ ∙ c.in_ok-write_there.ensures _
+    ∙ c.in_ok-put_there.ensures c.args.site.at c.args.site.after done
