@@ -15,7 +15,7 @@ use Rattle.cfg_walk.specs.Known.{IsKnown}
 use Rattle.cfg_walk.specs.Searching.{AreFound}
 
 -- instructions without a fault are known
-pub known : (program : Program) (found placed : List Placed) → AreFound program found → AreInstructions program placed → Clear (Holds program) 15 19 → IsKnown program placed
+pub known : (program : Program) (found placed : List Placed) → AreFound program found → AreInstructions program placed → Clear (Holds program) 15 18 → IsKnown program placed
 known program found placed are instructions clear = record {
   instructions = instructions;
   whole = are.whole;

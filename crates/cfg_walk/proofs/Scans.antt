@@ -1,16 +1,16 @@
--- The least instruction that is not translated so far, and the least one that begins inside another.
+-- The least indirect call or jump, and the least one that begins inside another.
 use Rattle.std.proofs.Common.{◌≡◌, ◌<◌, ◌≤◌, ◌+◌, ◌-◌, ℕ, zero, suc, true, false, List, [], ◌∷◌, length, get_or, Some, None, map, refl, sym, ap, ◌∙◌, subst, arith, ◌⊎◌, inl, inr}
 use Rattle.std.specs.List.{slice_get}
 use Rattle.std.proofs.lemmas.Option.{slice_get_within, slice_get-get_or}
 use Rattle.std.proofs.lemmas.Bool.{cases_lt}
 use Rattle.x64_syntax.specs.declared.placed.Placed.{Placed}
 use Rattle.elf_read.specs.declared.fault.FileFault.{FileFault}
-use Rattle.elf_read.specs.declared.fault.FileFault.TheVariants.{TooMuchCode, BadCode, UnbuiltCode, Overlap}
+use Rattle.elf_read.specs.declared.fault.FileFault.TheVariants.{TooMuchCode, BadCode, Indirect, Overlap}
 use Rattle.elf_read.specs.FirstFault.{Clear, IsFirst, Before, rank}
 use Rattle.code_at.specs.Code.{Program}
 use Rattle.cfg_walk.specs.Code.{AreInstructions, IsIncreasing}
 use Rattle.cfg_walk.specs.Reach.{end_of}
-use Rattle.cfg_walk.specs.Faults.{Holds, IsUnbuilt, IsOverlapping, is_unbuilt}
+use Rattle.cfg_walk.specs.Faults.{Holds, IsIndirect, IsOverlapping, is_indirect}
 use Rattle.cfg_walk.specs.Searching.{address_of}
 use Rattle.cfg_walk.specs.Least.{IsLeast}
 
@@ -39,42 +39,42 @@ earlier placed sorted i j p q one other less = by_order (cases_lt i j)
             let addresses : p.address ≡ q.address = ap address_of equal in
             absurd (omega (arith, addresses, less))
 
--- those of the instructions before a place are all translated
-abbrev pub BuiltUpTo : List Placed → ℕ → Type 0
-BuiltUpTo placed n = (i : ℕ) (p : Placed) → i < n → slice_get placed i ≡ Some p → is_unbuilt p.instr ≡ false
+-- those of the instructions before a place are all direct
+abbrev pub DirectUpTo : List Placed → ℕ → Type 0
+DirectUpTo placed n = (i : ℕ) (p : Placed) → i < n → slice_get placed i ≡ Some p → is_indirect p.instr ≡ false
 
-pub built_more : (placed : List Placed) (n : ℕ) (p : Placed) → slice_get placed n ≡ Some p → is_unbuilt p.instr ≡ false → BuiltUpTo placed n → BuiltUpTo placed (n + 1)
-built_more placed n p at built before i q below here = by_order (cases_lt i n)
+pub direct_more : (placed : List Placed) (n : ℕ) (p : Placed) → slice_get placed n ≡ Some p → is_indirect p.instr ≡ false → DirectUpTo placed n → DirectUpTo placed (n + 1)
+direct_more placed n p at direct before i q below here = by_order (cases_lt i n)
   where
-    by_order : (i < n) ⊎ (n ≤ i) → is_unbuilt q.instr ≡ false
+    by_order : (i < n) ⊎ (n ≤ i) → is_indirect q.instr ≡ false
     by_order (inl less) = before i q less here
     by_order (inr past) =
         let e : i ≡ n = omega (arith, past, below) in
         let there : slice_get placed n ≡ Some q = subst (λ (k : ℕ). slice_get placed k ≡ Some q) e here in
         let same : p ≡ q = cc in
-        subst (λ (o : Placed). is_unbuilt o.instr ≡ false) same built
+        subst (λ (o : Placed). is_indirect o.instr ≡ false) same direct
 
-pub least_unbuilt : (program : Program) (placed : List Placed) (n : ℕ) (p : Placed) → slice_get placed n ≡ Some p → is_unbuilt p.instr ≡ true → BuiltUpTo placed n
-    → AreInstructions program placed → IsLeast (IsUnbuilt program) (Some p.address)
-least_unbuilt program placed n p at unbuilt before are = (
-  record { p = p; placed = (are.exact p).0 (n, at); here = refl; unbuilt = unbuilt },
+pub least_indirect : (program : Program) (placed : List Placed) (n : ℕ) (p : Placed) → slice_get placed n ≡ Some p → is_indirect p.instr ≡ true → DirectUpTo placed n
+    → AreInstructions program placed → IsLeast (IsIndirect program) (Some p.address)
+least_indirect program placed n p at indirect before are = (
+  record { p = p; placed = (are.exact p).0 (n, at); here = refl; indirect = indirect },
   λ b less is. let there = (are.exact is.p).1 is.placed in
       let addresses = is.here in
       let first = earlier placed are.sorted there.0 n is.p p there.1 at (omega (arith, less, addresses)) in
-      let built = before there.0 is.p first there.1 in
-      let not_built = is.unbuilt in
-      absurd (differ (sym built ∙ not_built)),
+      let direct = before there.0 is.p first there.1 in
+      let indirect = is.indirect in
+      absurd (differ (sym direct ∙ indirect)),
 )
   where
     differ : false ≡ true → ⊥
     differ e = absurd cc
 
-pub none_unbuilt : (program : Program) (placed : List Placed) (n : ℕ) → length placed ≤ n → BuiltUpTo placed n → AreInstructions program placed → IsLeast (IsUnbuilt program) None
-none_unbuilt program placed n end before are a is =
+pub none_indirect : (program : Program) (placed : List Placed) (n : ℕ) → length placed ≤ n → DirectUpTo placed n → AreInstructions program placed → IsLeast (IsIndirect program) None
+none_indirect program placed n end before are a is =
     let there = (are.exact is.p).1 is.placed in
     let within = slice_get_within placed there.0 is.p there.1 in
-    let built = before there.0 is.p (omega (arith, within, end)) there.1 in
-    differ (sym built ∙ is.unbuilt)
+    let direct = before there.0 is.p (omega (arith, within, end)) there.1 in
+    differ (sym direct ∙ is.indirect)
   where
     differ : false ≡ true → ⊥
     differ e = absurd cc
@@ -160,35 +160,35 @@ none_overlap program placed n end apart are a is =
 
 -- ---- both checks
 
-pub unbuilt_first : (program : Program) (a : ℕ) → IsLeast (IsUnbuilt program) (Some a) → IsFirst (Holds program) 15 19 (UnbuiltCode a)
-unbuilt_first program a least = record { holds = least.0; from = omega arith; below = omega arith; first = before }
+pub indirect_first : (program : Program) (a : ℕ) → IsLeast (IsIndirect program) (Some a) → IsFirst (Holds program) 15 18 (Indirect a)
+indirect_first program a least = record { holds = least.0; from = omega arith; below = omega arith; first = before }
   where
-    before : (g : FileFault) → 15 ≤ rank g → Before g (UnbuiltCode a) → Holds program g → ⊥
-    before (UnbuiltCode b) low (inl less) is = absurd (omega (arith, less))
-    before (UnbuiltCode b) low (inr less) is = least.1 b less.1 is
+    before : (g : FileFault) → 15 ≤ rank g → Before g (Indirect a) → Holds program g → ⊥
+    before (Indirect b) low (inl less) is = absurd (omega (arith, less))
+    before (Indirect b) low (inr less) is = least.1 b less.1 is
     before (Overlap b) low (inl less) is = absurd (omega (arith, less))
     before (Overlap b) low (inr same) is = absurd (omega (arith, same.0))
     before TooMuchCode low first is = absurd (omega (arith, low))
     before (BadCode fault) low first is = absurd (omega (arith, low))
     before g low first is = is
 
-pub overlap_first : (program : Program) (a : ℕ) → IsLeast (IsUnbuilt program) None → IsLeast (IsOverlapping program) (Some a) → IsFirst (Holds program) 15 19 (Overlap a)
-overlap_first program a built least = record { holds = least.0; from = omega arith; below = omega arith; first = before }
+pub overlap_first : (program : Program) (a : ℕ) → IsLeast (IsIndirect program) None → IsLeast (IsOverlapping program) (Some a) → IsFirst (Holds program) 15 18 (Overlap a)
+overlap_first program a direct least = record { holds = least.0; from = omega arith; below = omega arith; first = before }
   where
     before : (g : FileFault) → 15 ≤ rank g → Before g (Overlap a) → Holds program g → ⊥
-    before (UnbuiltCode b) low first is = built b is
+    before (Indirect b) low first is = direct b is
     before (Overlap b) low (inl less) is = absurd (omega (arith, less))
     before (Overlap b) low (inr less) is = least.1 b less.1 is
     before TooMuchCode low first is = absurd (omega (arith, low))
     before (BadCode fault) low first is = absurd (omega (arith, low))
     before g low first is = is
 
-pub all_clear : (program : Program) → IsLeast (IsUnbuilt program) None → IsLeast (IsOverlapping program) None → Clear (Holds program) 15 19
-all_clear program built apart (UnbuiltCode b) low high is = built b is
-all_clear program built apart (Overlap b) low high is = apart b is
-all_clear program built apart TooMuchCode low high is = absurd (omega (arith, low))
-all_clear program built apart (BadCode fault) low high is = absurd (omega (arith, low))
-all_clear program built apart g low high is = is
+pub all_clear : (program : Program) → IsLeast (IsIndirect program) None → IsLeast (IsOverlapping program) None → Clear (Holds program) 15 18
+all_clear program direct apart (Indirect b) low high is = direct b is
+all_clear program direct apart (Overlap b) low high is = apart b is
+all_clear program direct apart TooMuchCode low high is = absurd (omega (arith, low))
+all_clear program direct apart (BadCode fault) low high is = absurd (omega (arith, low))
+all_clear program direct apart g low high is = is
 
 -- ---- as the code reads neighbours
 

@@ -19,13 +19,13 @@ use Rattle.x64_table.specs.State.{Thread}
 use Rattle.x64_table.specs.Rows.{Exit, State, Return, Indexed, row_of}
 use Rattle.x64_table.specs.Machine.{no_entries, resolve, x64_take}
 use Rattle.elf_read.specs.Elf.{IsSegment}
-use Rattle.elf_read.specs.declared.fault.FileFault.TheVariants.{UnbuiltCode}
+use Rattle.elf_read.specs.declared.fault.FileFault.TheVariants.{Indirect}
 use Rattle.code_at.specs.Code.{Program, is_at, listed_at, flow_of}
 use Rattle.code_at.proofs.CallerLemmas.{ends_low}
 use Rattle.cfg_walk.specs.declared.code.Code.{Code}
 use Rattle.cfg_walk.specs.Reach.{IsReached, IsPlaced, end_of, successors}
 use Rattle.cfg_walk.specs.Reach.IsReached.{at-next}
-use Rattle.cfg_walk.specs.Faults.{is_unbuilt}
+use Rattle.cfg_walk.specs.Faults.{is_indirect}
 use Rattle.cfg_walk.specs.Code.{IsCodeOf}
 use Rattle.cfg_walk.specs.Machine.{has_address, code_for_threads, thread_step}
 use Rattle.cfg_walk.specs.Running.{IsBegun, NoWrongJump, RunsAreReached}
@@ -38,18 +38,18 @@ use Rattle.cfg_walk.proofs.Whole.{whole, site_leads}
 
 -- ---- the row of a placed instruction
 
-direct_built : (i : Instr) → is_unbuilt i ≡ false → IsDirect i
-direct_built (instr.CallInd to) built = absurd (cc)
-direct_built (instr.JmpInd to) built = absurd (cc)
-direct_built i built = tt
+direct_if : (i : Instr) → is_indirect i ≡ false → IsDirect i
+direct_if (instr.CallInd to) direct = absurd (cc)
+direct_if (instr.JmpInd to) direct = absurd (cc)
+direct_if i direct = tt
 
 -- what is translated so far says itself where it leads
 direct : (program : Program) (code : Code) → IsCodeOf program code → (p : Placed) → IsPlaced program p → IsDirect p.instr
-direct program code is p placed = direct_built p.instr (by_test (is_unbuilt p.instr) refl)
+direct program code is p placed = direct_if p.instr (by_test (is_indirect p.instr) refl)
   where
-    by_test : (b : Bool) → is_unbuilt p.instr ≡ b → is_unbuilt p.instr ≡ false
+    by_test : (b : Bool) → is_indirect p.instr ≡ b → is_indirect p.instr ≡ false
     by_test false e = e
-    by_test true e = absurd (is.clear (UnbuiltCode p.address) (omega arith) (omega arith) (record { p = p; placed = placed; here = refl; unbuilt = e }))
+    by_test true e = absurd (is.clear (Indirect p.address) (omega arith) (omega arith) (record { p = p; placed = placed; here = refl; indirect = e }))
 
 listed_no_table : (program : Program) (a : ℕ) → listed_at program a ≢ flow.TableJump
 listed_no_table program a = by_tests (is_at program.input a) (is_at program.output a)

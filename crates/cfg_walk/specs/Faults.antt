@@ -6,7 +6,7 @@ use Rattle.x64_syntax.specs.declared.instr.Instr.TheVariants as instr
 use Rattle.x64_syntax.specs.declared.placed.Placed.{Placed}
 use Rattle.elf_read.specs.declared.fault.CodeFault.{CodeFault}
 use Rattle.elf_read.specs.declared.fault.FileFault.{FileFault}
-use Rattle.elf_read.specs.declared.fault.FileFault.TheVariants.{TooMuchCode, BadCode, UnbuiltCode, Overlap}
+use Rattle.elf_read.specs.declared.fault.FileFault.TheVariants.{TooMuchCode, BadCode, Indirect, Overlap}
 use Rattle.code_at.specs.Code.{Program, IsBad}
 use Rattle.cfg_walk.specs.Reach.{IsReached, IsPlaced, end_of, entries_at}
 
@@ -30,33 +30,18 @@ pub record IsBadCode (program : Program) (fault : CodeFault) : Type 0 where
   pub reached : IsReached program fault.address
   pub bad : IsBad program fault.address fault.kind
 
--- Whether an instruction is not translated so far: an indirect call or jump, and what locks memory, multiplies, divides,
--- shifts or rotates.
-abbrev pub is_unbuilt : Instr → Bool
-is_unbuilt (instr.CallInd to) = true
-is_unbuilt (instr.JmpInd to) = true
-is_unbuilt (instr.Alu o w to from locked) = locked
-is_unbuilt (instr.Xchg w to from locked) = locked
-is_unbuilt (instr.Inc w to locked) = locked
-is_unbuilt (instr.Dec w to locked) = locked
-is_unbuilt (instr.Not w to locked) = locked
-is_unbuilt (instr.Cmpxchg w to from locked) = locked
-is_unbuilt (instr.Xadd w to from locked) = locked
-is_unbuilt (instr.Mul w from) = true
-is_unbuilt (instr.ImulOne w from) = true
-is_unbuilt (instr.ImulTwo w to from) = true
-is_unbuilt (instr.ImulThree w to from by) = true
-is_unbuilt (instr.Div w from) = true
-is_unbuilt (instr.Idiv w from) = true
-is_unbuilt (instr.Shift o w to by) = true
-is_unbuilt i = false
+-- whether an instruction is an indirect call or jump
+abbrev pub is_indirect : Instr → Bool
+is_indirect (instr.CallInd to) = true
+is_indirect (instr.JmpInd to) = true
+is_indirect i = false
 
--- an instruction that is not translated so far is placed at the address
-pub record IsUnbuilt (program : Program) (a : ℕ) : Type 0 where
+-- an indirect call or jump is placed at the address, and is no table jump; no table is known so far
+pub record IsIndirect (program : Program) (a : ℕ) : Type 0 where
   pub p : Placed
   pub placed : IsPlaced program p
   pub here : p.address ≡ a
-  pub unbuilt : is_unbuilt p.instr ≡ true
+  pub indirect : is_indirect p.instr ≡ true
 
 -- the instruction that is placed at the address begins inside another one that is placed
 pub record IsOverlapping (program : Program) (a : ℕ) : Type 0 where
@@ -68,11 +53,11 @@ pub record IsOverlapping (program : Program) (a : ℕ) : Type 0 where
   pub behind : other.address < a
   pub inside : a < end_of other
 
--- When a fault holds of a program's code. Indirect, TableEntered and UndefinedFlag are not looked for so far: an indirect
--- call or jump is unbuilt code.
+-- When a fault holds of a program's code: TooMuchCode to TableEntered, of which the last holds of none, since no table is known
+-- so far.
 abbrev pub Holds : Program → FileFault → Type 0
 Holds program TooMuchCode = IsTooMuch program
 Holds program (BadCode fault) = IsBadCode program fault
-Holds program (UnbuiltCode a) = IsUnbuilt program a
+Holds program (Indirect a) = IsIndirect program a
 Holds program (Overlap a) = IsOverlapping program a
 Holds program f = ⊥

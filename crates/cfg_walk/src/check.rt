@@ -2,7 +2,7 @@ ghost use Rattle.std.specs.Prelude.{◌≡◌, ◌≤◌, ◌<◌, ◌+◌, ◌-
 ghost use Rattle.elf_read.specs.FirstFault.{Looks};
 ghost use Rattle.code_at.specs.Code.{Program};
 ghost use Rattle.cfg_walk.specs.Code.{AreInstructions, IsIncreasing};
-ghost use Rattle.cfg_walk.specs.Faults.{Holds, IsUnbuilt, IsOverlapping, is_unbuilt};
+ghost use Rattle.cfg_walk.specs.Faults.{Holds, IsIndirect, IsOverlapping, is_indirect};
 ghost use Rattle.cfg_walk.specs.Searching.{AreFound, address_of};
 ghost use Rattle.cfg_walk.specs.Least.{IsLeast};
 
@@ -18,28 +18,15 @@ pub(crate) fn in_order(mut placed: Vec<Placed>) -> Vec<Placed>
     placed
 }
 
-/// Whether an instruction is not translated so far.
-fn is_unbuilt(instr: &Instr) -> bool
-    ensures { result ≡ is_unbuilt instr.now }
+/// Whether an instruction is an indirect call or jump.
+fn is_indirect(instr: &Instr) -> bool
+    ensures { result ≡ is_indirect instr.now }
 {
     match *instr {
-        Instr::CallInd(_)
-        | Instr::JmpInd(_)
-        | Instr::Mul(_, _)
-        | Instr::ImulOne(_, _)
-        | Instr::ImulTwo(_, _, _)
-        | Instr::ImulThree(_, _, _, _)
-        | Instr::Div(_, _)
-        | Instr::Idiv(_, _)
-        | Instr::Shift(_, _, _, _) => true,
-        Instr::Alu(_, _, _, _, locked)
-        | Instr::Xchg(_, _, _, locked)
-        | Instr::Inc(_, _, locked)
-        | Instr::Dec(_, _, locked)
-        | Instr::Not(_, _, locked)
-        | Instr::Cmpxchg(_, _, _, locked)
-        | Instr::Xadd(_, _, _, locked) => locked,
-        Instr::Test(_, _, _)
+        Instr::CallInd(_) | Instr::JmpInd(_) => true,
+        Instr::Alu(_, _, _, _, _)
+        | Instr::Test(_, _, _)
+        | Instr::Xchg(_, _, _, _)
         | Instr::Mov(_, _, _)
         | Instr::Lea(_, _, _)
         | Instr::MovZx(_, _, _, _)
@@ -54,7 +41,19 @@ fn is_unbuilt(instr: &Instr) -> bool
         | Instr::Jcc(_, _)
         | Instr::SetCc(_, _)
         | Instr::CmovCc(_, _, _, _)
+        | Instr::Inc(_, _, _)
+        | Instr::Dec(_, _, _)
+        | Instr::Not(_, _, _)
         | Instr::Neg(_, _)
+        | Instr::Mul(_, _)
+        | Instr::ImulOne(_, _)
+        | Instr::ImulTwo(_, _, _)
+        | Instr::ImulThree(_, _, _, _)
+        | Instr::Div(_, _)
+        | Instr::Idiv(_, _)
+        | Instr::Shift(_, _, _, _)
+        | Instr::Cmpxchg(_, _, _, _)
+        | Instr::Xadd(_, _, _, _)
         | Instr::Widen(_)
         | Instr::SignFill(_)
         | Instr::Nop
@@ -65,12 +64,12 @@ fn is_unbuilt(instr: &Instr) -> bool
     }
 }
 
-/// The least address of an instruction that is not translated so far.
-fn first_unbuilt(placed: &[Placed]) -> Option<u64>
-    ensures { (program : Program) → AreInstructions program placed.now → IsLeast (IsUnbuilt program) result }
+/// The least address of an indirect call or jump.
+fn first_indirect(placed: &[Placed]) -> Option<u64>
+    ensures { (program : Program) → AreInstructions program placed.now → IsLeast (IsIndirect program) result }
 {
     for p in placed {
-        if is_unbuilt(&p.instr) {
+        if is_indirect(&p.instr) {
             return Some(p.address);
         }
     }
@@ -92,13 +91,13 @@ fn first_overlap(placed: &[Placed]) -> Option<u64>
     None
 }
 
-/// Refuses code that is not translated so far, and instructions that overlap.
+/// Refuses indirect calls and jumps, and instructions that overlap.
 pub(crate) fn check(placed: &[Placed]) -> Result<(), FileFault>
     requires { IsIncreasing (map address_of placed.now) }
-    ensures { (program : Program) → AreInstructions program placed.now → Looks (Holds program) 15 19 result }
+    ensures { (program : Program) → AreInstructions program placed.now → Looks (Holds program) 15 18 result }
 {
-    if let Some(address) = first_unbuilt(placed) {
-        return Err(FileFault::UnbuiltCode(address));
+    if let Some(address) = first_indirect(placed) {
+        return Err(FileFault::Indirect(address));
     }
     match first_overlap(placed) {
         Some(address) => Err(FileFault::Overlap(address)),

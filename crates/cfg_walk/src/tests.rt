@@ -76,7 +76,7 @@ fn the_first_fault_is_told_at_its_least_address(rt: HostRuntime) -> Result<(), F
     let listed = fault_of(alloc, b"\xC3", 0x401000)?;
     assert_eq!(rt; listed, bad(0x401000, BadCodeKind::Listed));
     let indirect = fault_of(alloc, b"\xFF\xE0", NOWHERE)?;
-    assert_eq!(rt; indirect, FileFault::UnbuiltCode(0x401000));
+    assert_eq!(rt; indirect, FileFault::Indirect(0x401000));
     Ok(())
 }
 
@@ -87,8 +87,8 @@ fn faults_come_by_rank_and_address(rt: HostRuntime) -> Result<(), Fail> {
     let least = fault_of(alloc, b"\x74\x02\x06\x90\x06", NOWHERE)?;
     assert_eq!(rt; least, bad(0x401002, BadCodeKind::Unknown));
     // jmp rax, which nothing overlaps, stands behind an overlap.
-    let unbuilt = fault_of(alloc, b"\x74\x03\xEB\xFF\xC0\xFF\xE0", NOWHERE)?;
-    assert_eq!(rt; unbuilt, FileFault::UnbuiltCode(0x401005));
+    let behind = fault_of(alloc, b"\x74\x03\xEB\xFF\xC0\xFF\xE0", NOWHERE)?;
+    assert_eq!(rt; behind, FileFault::Indirect(0x401005));
     Ok(())
 }
 

@@ -6,7 +6,7 @@ use Rattle.std.proofs.lemmas.List.{length-drop, length-take}
 use Rattle.ev_graph.specs.Memory.{Part, cells_of}
 use Rattle.elf_read.specs.declared.elf.Elf.{Elf}
 use Rattle.elf_read.specs.declared.fault.FileFault.{FileFault}
-use Rattle.elf_read.specs.declared.fault.FileFault.TheVariants.{TooLong, Short, Magic, Class, BadType, Machine, ProgramTable, Segment, TooBig, SymbolTable, NoThread, DoubleName, TooMuchCode, BadCode, Indirect, UnbuiltCode, Overlap, TableEntered, UndefinedFlag}
+use Rattle.elf_read.specs.declared.fault.FileFault.TheVariants.{TooLong, Short, Magic, Class, BadType, Machine, ProgramTable, Segment, TooBig, SymbolTable, NoThread, DoubleName, TooMuchCode, BadCode, Indirect, Overlap, TableEntered, UndefinedFlag}
 use Rattle.elf_read.specs.Elf.{IsProgram, parts_of, elf_cells}
 use Rattle.elf_read.specs.Bytes.{PassesEnd}
 use Rattle.elf_read.specs.ElfFile.{segments_of, section_bytes, threads_of}
@@ -82,7 +82,6 @@ is_fault_at bytes (DoubleName i) holds = refl
 is_fault_at bytes TooMuchCode holds = absurd holds
 is_fault_at bytes (BadCode fault) holds = absurd holds
 is_fault_at bytes (Indirect a) holds = absurd holds
-is_fault_at bytes (UnbuiltCode a) holds = absurd holds
 is_fault_at bytes (Overlap a) holds = absurd holds
 is_fault_at bytes (TableEntered a) holds = absurd holds
 is_fault_at bytes (UndefinedFlag a) holds = absurd holds

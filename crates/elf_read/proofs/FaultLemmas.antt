@@ -1,7 +1,7 @@
 -- The order of the faults that speak of symbols.
 use Rattle.std.proofs.Common.{◌≡◌, ◌<◌, ◌≤◌, ℕ, List, Some, arith, sym, subst, inr, ⊎_elim}
 use Rattle.elf_read.specs.declared.fault.FileFault.{FileFault}
-use Rattle.elf_read.specs.declared.fault.FileFault.TheVariants.{SymbolTable, NoThread, DoubleName, TooMuchCode, BadCode, Indirect, UnbuiltCode, Overlap, TableEntered, UndefinedFlag}
+use Rattle.elf_read.specs.declared.fault.FileFault.TheVariants.{SymbolTable, NoThread, DoubleName, TooMuchCode, BadCode, Indirect, Overlap, TableEntered, UndefinedFlag}
 use Rattle.elf_read.specs.Fields.{section_header_at, sh_link}
 use Rattle.elf_read.specs.ElfFile.{symbol_section, section_bytes, symbols_of, strings_of, thread_name}
 use Rattle.elf_read.specs.FileFaults.{Holds, IsBadSymbolTable, HasNameless, IsNamed, HasNoThread, RepeatsName}
@@ -40,7 +40,6 @@ before_double bytes i table thread once (DoubleName j) low before holds =
 before_double bytes i table thread once TooMuchCode low before holds = holds
 before_double bytes i table thread once (BadCode fault) low before holds = holds
 before_double bytes i table thread once (Indirect a) low before holds = holds
-before_double bytes i table thread once (UnbuiltCode a) low before holds = holds
 before_double bytes i table thread once (Overlap a) low before holds = holds
 before_double bytes i table thread once (TableEntered a) low before holds = holds
 before_double bytes i table thread once (UndefinedFlag a) low before holds = holds

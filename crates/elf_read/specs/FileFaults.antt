@@ -2,7 +2,7 @@
 use Rattle.std.specs.Prelude.{◌≡◌, ◌≢◌, ◌<◌, ◌≤◌, ◌⊎◌, ◌+◌, ◌*◌, ◌%◌, ◌^◌, ℕ, List, [], ◌∷◌, length, take, sum_by, slice_index, IsTrue, Option, Some, None}
 use Rattle.ev_graph.specs.Memory.{Part, has_flag}
 use Rattle.elf_read.specs.declared.fault.FileFault.{FileFault}
-use Rattle.elf_read.specs.declared.fault.FileFault.TheVariants.{TooLong, Short, Magic, Class, BadType, Machine, ProgramTable, Segment, TooBig, SymbolTable, NoThread, DoubleName, TooMuchCode, BadCode, Indirect, UnbuiltCode, Overlap, TableEntered, UndefinedFlag}
+use Rattle.elf_read.specs.declared.fault.FileFault.TheVariants.{TooLong, Short, Magic, Class, BadType, Machine, ProgramTable, Segment, TooBig, SymbolTable, NoThread, DoubleName, TooMuchCode, BadCode, Indirect, Overlap, TableEntered, UndefinedFlag}
 use Rattle.elf_read.specs.Bytes.{PassesEnd}
 use Rattle.elf_read.specs.Fields.{e_type, e_machine, e_phoff, e_shoff, e_phentsize, e_phnum, e_shentsize, e_shnum, program_header_at, p_type, p_flags, p_offset, p_vaddr, p_filesz, p_memsz, section_header_at, sh_type, sh_flags, sh_offset, sh_size, sh_link, sh_entsize, st_name}
 use Rattle.elf_read.specs.ElfFile.{segments_of, symbol_section, section_bytes, symbols_of, strings_of, symbol_count, is_global, is_symbol, thread_name, input_name, output_name}
@@ -117,7 +117,6 @@ Holds bytes (DoubleName i) = RepeatsName (symbols_of bytes) (strings_of bytes) i
 Holds bytes TooMuchCode = ⊥
 Holds bytes (BadCode fault) = ⊥
 Holds bytes (Indirect a) = ⊥
-Holds bytes (UnbuiltCode a) = ⊥
 Holds bytes (Overlap a) = ⊥
 Holds bytes (TableEntered a) = ⊥
 Holds bytes (UndefinedFlag a) = ⊥

@@ -1,7 +1,7 @@
 -- The order of a file's faults, and what it is to be the first.
 use Rattle.std.specs.Prelude.{◌≡◌, ◌<◌, ◌≤◌, ◌⊎◌, ℕ, Result, Ok, Err}
 use Rattle.elf_read.specs.declared.fault.FileFault.{FileFault}
-use Rattle.elf_read.specs.declared.fault.FileFault.TheVariants.{TooLong, Short, Magic, Class, BadType, Machine, ProgramTable, Segment, TooBig, SymbolTable, NoThread, DoubleName, TooMuchCode, BadCode, Indirect, UnbuiltCode, Overlap, TableEntered, UndefinedFlag}
+use Rattle.elf_read.specs.declared.fault.FileFault.TheVariants.{TooLong, Short, Magic, Class, BadType, Machine, ProgramTable, Segment, TooBig, SymbolTable, NoThread, DoubleName, TooMuchCode, BadCode, Indirect, Overlap, TableEntered, UndefinedFlag}
 use Rattle.elf_read.specs.declared.fault.TransFault.{TransFault}
 use Rattle.elf_read.specs.declared.fault.TransFault.TheVariants.{File, NoMemory}
 
@@ -22,10 +22,9 @@ rank (DoubleName i) = 12
 rank TooMuchCode = 13
 rank (BadCode fault) = 14
 rank (Indirect a) = 15
-rank (UnbuiltCode a) = 16
-rank (Overlap a) = 17
-rank (TableEntered a) = 18
-rank (UndefinedFlag a) = 19
+rank (Overlap a) = 16
+rank (TableEntered a) = 17
+rank (UndefinedFlag a) = 18
 
 -- faults of one kind come in the order of their places: a number of an entry or a symbol, or an address
 abbrev pub place : FileFault → ℕ
@@ -44,7 +43,6 @@ place (DoubleName i) = i
 place TooMuchCode = 0
 place (BadCode fault) = fault.address
 place (Indirect a) = a
-place (UnbuiltCode a) = a
 place (Overlap a) = a
 place (TableEntered a) = a
 place (UndefinedFlag a) = a

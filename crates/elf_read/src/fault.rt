@@ -61,8 +61,6 @@ pub enum FileFault {
     BadCode(CodeFault),
     #[error("there is an indirect jump or call at {0:#x}")]
     Indirect(u64),
-    #[error("the instruction at {0:#x} is not translated so far")]
-    UnbuiltCode(u64),
     #[error("the instruction at {0:#x} begins inside another")]
     Overlap(u64),
     #[error("the table jump is entered at {0:#x}")]

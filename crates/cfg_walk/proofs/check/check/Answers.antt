@@ -1,8 +1,8 @@
-use Rattle.cfg_walk.proofs.Scans.{unbuilt_first, overlap_first}
+use Rattle.cfg_walk.proofs.Scans.{indirect_first, overlap_first}
 use Rattle.cfg_walk.proofs.check.check.Goals as goal
 
 pub returns-in-Some : goal.returns-in-Some
-returns-in-Some c = λ program are. unbuilt_first program c.in-Some.address (c.in-Some.ensures program are)
+returns-in-Some c = λ program are. indirect_first program c.in-Some.address (c.in-Some.ensures program are)
 
 pub returns-in-Some-first_overlap : goal.returns-in-Some-first_overlap
 returns-in-Some-first_overlap c =

@@ -18,14 +18,14 @@ returns-in-Err-clause-first c =
     let program = program_of c.args.elf.now in
     let are = c.in_order-placed.ensures.are program c.in_ok-found.ensures.found in
     let shown = subst (λ (ps : List Placed). AreInstructions program ps) (sym c.deref.ensures.value) are in
-    first_behind (Holds program) 13 15 19 c.in-Err.fault (omega arith) c.in_ok-found.ensures.first (c.in-Err.ensures program shown)
+    first_behind (Holds program) 13 15 18 c.in-Err.fault (omega arith) c.in_ok-found.ensures.first (c.in-Err.ensures program shown)
 
 pub returns-in-Ok-clause-first : goal.returns-in-Ok-clause-first
 returns-in-Ok-clause-first c =
     let program = program_of c.args.elf.now in
     let are = c.in_order-placed.ensures.are program c.in_ok-found.ensures.found in
     let shown = subst (λ (ps : List Placed). AreInstructions program ps) (sym c.deref.ensures.value) are in
-    clear_join (Holds program) 13 15 19 c.in_ok-found.ensures.first (c.in-Ok.ensures program shown)
+    clear_join (Holds program) 13 15 18 c.in_ok-found.ensures.first (c.in-Ok.ensures program shown)
 
 pub returns-in-Ok-clause-known : goal.returns-in-Ok-clause-known
 returns-in-Ok-clause-known c =

@@ -1,0 +1,10 @@
+pub mod CallerLemmas
+pub mod Conditions
+pub mod Exits
+pub mod Lists
+pub mod Lookups
+pub mod Meaning
+pub mod Nodes
+pub mod Ordered
+pub mod Readings
+pub mod Runs
