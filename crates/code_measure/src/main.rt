@@ -1,17 +1,21 @@
 //! Programs of as much code as is accepted, of shapes on which a recovery that is not linear shows it, to measure it.
-//! Nothing rests on it; it calls `recover` of `cfg_walk`.
+//! Nothing rests on it; it calls `recover` of `cfg_walk`, `check_flags` of `flag_use` and `marks` of `frame_marks`.
 //! Source: the limit of 65,536 reached addresses.
 #![tactic(auto)]
 
 ghost use Rattle.std.specs.Prelude.{◌≤◌, IfOk, length};
 ghost use Rattle.elf_read.specs.Elf.{IsProgram, parts_of};
 ghost use Rattle.gen_input.specs.BuiltFile.{IsShort};
+ghost use Rattle.code_at.specs.Code.{program_of};
+ghost use Rattle.cfg_walk.specs.Code.{IsCodeOf};
 
 mod shape;
 
-use cfg_walk::recover;
+use cfg_walk::{Code, recover};
 use elf_read::{Elf, read_elf};
 use ev_graph::List;
+use flag_use::check_flags;
+use frame_marks::marks;
 use gen_input::{Symbol, build};
 use shape::Shape;
 use std::alloc::Global;
@@ -47,17 +51,38 @@ fn measure<R: Print + Eprint + AllocGlobal + CpuClock>(rt: &R, shape: Shape) -> 
     let answer = recover(rt.alloc(), &elf);
     let after = rt.thread_cpu_time()?;
     let name = shape.name();
-    match answer {
-        Ok(code) => {
-            let instructions = code.placed.as_slice().len();
-            let blocks = code.blocks.as_slice().len();
-            let sites = code.sites.as_slice().len();
-            println!(rt; "{name}: {instructions} instructions, {blocks} blocks, {sites} sites")?;
-        }
-        Err(fault) => println!(rt; "{name}: {fault}")?,
-    }
     let took = after.saturating_sub(before).as_millis();
     eprintln!(rt; "{name}: {took} ms")?;
+    match answer {
+        Ok(code) => measure_searches(rt, name, &code, &elf)?,
+        Err(fault) => println!(rt; "{name}: {fault}")?,
+    }
+    Ok(())
+}
+
+/// Looks for undefined flags and for private slots in recovered code, and prints what came of all three.
+fn measure_searches<R: Print + Eprint + AllocGlobal + CpuClock>(
+    rt: &R,
+    name: &str,
+    code: &Code,
+    elf: &Elf,
+) -> anyhow::Result<()>
+    requires program { IsProgram (parts_of elf.now) elf.now.threads }
+    requires code { IsCodeOf (program_of elf.now) code.now }
+{
+    let before = rt.thread_cpu_time()?;
+    check_flags(rt.alloc(), code, elf)?;
+    let between = rt.thread_cpu_time()?;
+    let private = marks(rt.alloc(), code, elf)?;
+    let after = rt.thread_cpu_time()?;
+    let instructions = code.placed.as_slice().len();
+    let blocks = code.blocks.as_slice().len();
+    let sites = code.sites.as_slice().len();
+    let slots = private.slots.as_slice().len();
+    println!(rt; "{name}: {instructions} instructions, {blocks} blocks, {sites} sites, {slots} private")?;
+    let flags = between.saturating_sub(before).as_millis();
+    let frames = after.saturating_sub(between).as_millis();
+    eprintln!(rt; "{name}: flags {flags} ms, frames {frames} ms")?;
     Ok(())
 }
 

@@ -1,0 +1,5 @@
+use Rattle.std.proofs.Common.{◌≤◌, ◌*◌, vec_len}
+use Rattle.code_measure.proofs.shape.chain.Given as goal
+
+abbrev pub invariant-loop : goal.invariant-loop
+invariant-loop l = vec_len l.code ≤ 5 * l.counter

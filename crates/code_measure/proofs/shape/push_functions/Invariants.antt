@@ -1,0 +1,5 @@
+use Rattle.std.proofs.Common.{◌≤◌, ◌*◌, ◌+◌, vec_len}
+use Rattle.code_measure.proofs.shape.push_functions.Given as goal
+
+abbrev pub invariant-loop-k : goal.invariant-loop-k
+invariant-loop-k l = vec_len l.code ≤ 40001 + 9 * l.k

@@ -1,0 +1,12 @@
+pub mod Plain
+pub mod Searched
+pub mod Gathered
+pub mod Firsts
+pub mod Functions
+pub mod Pointers
+pub mod Exposures
+pub mod Privates
+pub mod Ordered
+pub mod Whole
+pub mod Unique
+pub mod CallerLemmas
