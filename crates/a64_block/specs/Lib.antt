@@ -3,3 +3,4 @@ pub mod Renamed
 pub mod Blocks
 pub mod Conditions
 pub mod Breaks
+pub mod Barriers

@@ -4,3 +4,5 @@ pub mod Explained
 pub mod Plan
 pub mod Faults
 pub mod Carries
+pub mod Defined
+pub mod Barriers

@@ -1,6 +1,5 @@
 -- What holds of a code whose words were appended one after the other.
 use Rattle.std.proofs.Common.{◌≡◌, ℕ, ◌+◌, ◌*◌, ◌^◌, ◌≤◌, List, [], ◌++◌, length, map, sym, ap, ◌∙◌, subst, arith}
-use Rattle.std.specs.Prelude.{filter}
 use mathlib.Core.Path.{fun_ext}
 use Rattle.std.specs.List.{AllByRecursion}
 use Rattle.std.proofs.lemmas.List.{length-map}
@@ -13,7 +12,8 @@ use Rattle.a64_block.specs.declared.block.ABlock.{ABlock}
 use Rattle.code_layout.specs.declared.places.Places.{Places}
 use Rattle.code_layout.specs.Places.{blocks_size, words_before, start_of, ArePlacesOf}
 use Rattle.code_layout.specs.Conditions.{AreClosed}
-use Rattle.code_layout.specs.Barriers.{spells_barrier, barriers_of}
+use Rattle.a64_block.specs.Barriers.{spelled_barriers}
+use Rattle.code_layout.specs.Barriers.{barriers_of}
 use Rattle.code_layout.specs.Search.{Search, IsSearchOf}
 use Rattle.code_layout.specs.Code.{return_words, blocks_words, code_words, AppendsReturns, IsLaidOut}
 use Rattle.code_layout.proofs.BarrierWords.{barriers_once}
@@ -60,8 +60,8 @@ laid_out_size blocks sites words laid =
     omega (arith, small, long)
 
 pub laid_out_barriers : (blocks : List (ABlock XReg)) (sites words : List ℕ) → AreClosed blocks → blocks_size blocks + 15 * length sites ≤ 2 ^ 22 → IsLaidOut blocks sites words
-    → filter spells_barrier words ≡ barriers_of blocks
+    → spelled_barriers words ≡ barriers_of blocks
 laid_out_barriers blocks sites words closed few laid =
     let small = laid.looks_up.small in
-    ap (filter spells_barrier) laid.are
+    ap spelled_barriers laid.are
     ∙ barriers_once blocks laid.search (code_encodable blocks laid.search (all_stand (λ (c : ABlock XReg). IsLayable c.steps c.end) blocks closed.layable) (omega (arith, small, few)))

@@ -1,4 +1,4 @@
-ghost use Rattle.std.specs.Prelude.{◌≡◌, ◌≤◌, ◌^◌, ◌+◌, ◌*◌, ℕ, length, map, filter, IfOk};
+ghost use Rattle.std.specs.Prelude.{◌≡◌, ◌≤◌, ◌^◌, ◌+◌, ◌*◌, ℕ, length, map, IfOk};
 ghost use Rattle.ev_graph.specs.Places.{StandsIn};
 ghost use Rattle.behavior.specs.Acts.{Permission};
 ghost use Rattle.elf_read.specs.Elf.{parts_of, IsProgram};
@@ -11,7 +11,8 @@ ghost use Rattle.a64_block.specs.declared.block.ABlock.{ABlock as Block};
 ghost use Rattle.code_layout.specs.Places.{blocks_size, place_from, start_of, ArePlacesOf, AreTold};
 ghost use Rattle.code_layout.specs.Carried.{IsCarriedOut};
 ghost use Rattle.code_layout.specs.Conditions.{AreClosed, AreBegun};
-ghost use Rattle.code_layout.specs.Barriers.{spells_barrier, barriers_of};
+ghost use Rattle.a64_block.specs.Barriers.{spelled_barriers};
+ghost use Rattle.code_layout.specs.Barriers.{barriers_of};
 ghost use Rattle.code_layout.specs.Code.{IsLaidOut};
 
 use crate::code::{encoded, push_blocks, push_returns};
@@ -87,7 +88,7 @@ pub fn lay_out(
     ensures segments { IfOk result (λ image. map image_part image.segments ≡ kept (parts_of elf.now)) }
     ensures image { IfOk result IsImage }
     ensures size { IfOk result (λ image. length image.words ≤ blocks_size blocks.now + 15 * length code.now.sites + 3) }
-    ensures barriers { IfOk result (λ image. filter spells_barrier image.words ≡ barriers_of blocks.now) }
+    ensures barriers { IfOk result (λ image. spelled_barriers image.words ≡ barriers_of blocks.now) }
 {
     let segments = kept_segments(alloc, elf.segments.as_slice())?;
     let code_address = code_address(segments.as_slice());

@@ -2,7 +2,9 @@ ghost use Rattle.std.specs.Prelude.{◌≡◌, ◌≤◌, IfOk, length};
 ghost use Rattle.std.specs.List.{AllByRecursion};
 ghost use Rattle.limm_ir.specs.Conditions.{IsSelectable, IsWellMade, Unset};
 ghost use Rattle.limm_ir.specs.Costs.{cost_of, step_cost};
+ghost use Rattle.a64_block.specs.Barriers.{barriers_in};
 ghost use Rattle.a64_block.specs.Conditions.{IsAllocatable};
+ghost use Rattle.isel.specs.Barriers.{step_barriers};
 ghost use Rattle.isel.specs.Groups.{selected, selected_end};
 ghost use Rattle.isel.specs.Ranges.{IsSmall, HasSmall, Fits, HasSmallEnd};
 ghost use Rattle.isel.specs.Selected.{MeansSteps};
@@ -23,6 +25,7 @@ pub fn select(alloc: Global, block: &IrBlock) -> Result<ABlock<u32>, NoMemory>
     ensures end { IfOk result (λ b. b.end ≡ selected_end block.now.end) }
     ensures meaning { IfOk result (λ b. MeansSteps block.now.steps block.now.end b.steps b.end) }
     ensures allocatable { IfOk result (λ b. IsAllocatable b.steps b.end) }
+    ensures barriers { IfOk result (λ b. barriers_in b.steps ≡ step_barriers block.now.steps) }
     ensures few { IfOk result (λ b. length b.steps ≤ cost_of step_cost block.now.steps) }
 {
     let words = select_each(alloc, block.steps.as_slice())?;

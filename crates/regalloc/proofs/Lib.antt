@@ -1,4 +1,5 @@
 mod Renaming
+mod Barriers
 mod Kept
 mod Layable
 mod Numbers

@@ -1,4 +1,5 @@
 ghost use Rattle.std.specs.Prelude.{◌≡◌, IfOk, length};
+ghost use Rattle.a64_block.specs.Barriers.{barriers_in};
 ghost use Rattle.a64_block.specs.Conditions.{IsAllocatable, IsLayable};
 ghost use Rattle.a64_block.specs.Renamed.{IsRenamedEnd};
 ghost use Rattle.regalloc.specs.Allocated.{MeansNumbers};
@@ -19,6 +20,7 @@ pub fn allocate(alloc: Global, block: ABlock<u32>) -> Result<ABlock<XReg>, NoMem
     ensures end { IfOk result (λ b. IsRenamedEnd block.end b.end) }
     ensures meaning { IfOk result (λ b. MeansNumbers block.steps block.end b.steps b.end) }
     ensures layable { IfOk result (λ b. IsLayable b.steps b.end) }
+    ensures barriers { IfOk result (λ b. barriers_in b.steps ≡ barriers_in block.steps) }
     ensures many { IfOk result (λ b. length b.steps ≡ length block.steps) }
 {
     let last = last_uses(alloc, &block)?;

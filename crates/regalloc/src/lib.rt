@@ -1,5 +1,5 @@
 //! The allocation of the machine's registers to the temporaries of a block.
-//! Others rest on `allocate`, by its clauses `first`, `end`, `meaning`, `layable` and `many`.
+//! Others rest on `allocate`, by its clauses `first`, `end`, `meaning`, `layable`, `barriers` and `many`.
 //! Source: linear scan (Poletto and Sarkar, TOPLAS 21(5), 1999), over eight registers and without spilling.
 #![tactic(auto)]
 

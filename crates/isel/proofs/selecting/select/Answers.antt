@@ -5,7 +5,9 @@ use Rattle.limm_ir.specs.Costs.{cost_of, step_cost}
 use Rattle.isel.specs.Groups.{selected}
 use Rattle.isel.specs.Ranges.{HasSmall, Fits}
 use Rattle.isel.specs.Selected.{MeansSteps}
+use Rattle.a64_block.specs.Barriers.{barriers_in}
 use Rattle.a64_block.specs.Conditions.{IsAllocatable}
+use Rattle.isel.proofs.Barriers.{selected_barriers}
 use Rattle.isel.proofs.Live.{selected_allocatable}
 use Rattle.isel.proofs.Costs.{selected_few}
 use Rattle.isel.proofs.Small.{block_small}
@@ -40,3 +42,8 @@ returns-clause-few c =
     let xs = c.args.block.now.steps in
     let same = c.of.ensures ∙ c.in_ok-words.ensures.words ∙ ap (selected (λ t. Unset)) c.as_slice.ensures in
     subst (λ ws. length ws ≤ cost_of step_cost xs) (sym same) (selected_few (λ t. Unset) xs)
+
+pub returns-clause-barriers : goal.returns-clause-barriers
+returns-clause-barriers c =
+    let xs = c.args.block.now.steps in
+    ap barriers_in (c.of.ensures ∙ c.in_ok-words.ensures.words ∙ ap (selected (λ t. Unset)) c.as_slice.ensures) ∙ selected_barriers (λ t. Unset) xs
