@@ -1,5 +1,5 @@
 -- The file of an image that was laid out of a read program's passed blocks carries the file that was read.
-use Rattle.std.proofs.Common.{◌≡◌, inl, inr, ℕ, ◌≤◌, List, [], ◌∷◌, ◌++◌, length, map, arith, sym, ◌∙◌, ap, subst}
+use Rattle.std.proofs.Common.{◌≡◌, inl, inr, ℕ, ◌+◌, ◌≤◌, List, [], ◌∷◌, ◌++◌, length, map, arith, sym, ◌∙◌, ap, subst}
 use Rattle.std.proofs.lemmas.List.{length-map}
 use Rattle.std.specs.List.{AllByRecursion}
 use Rattle.ev_graph.specs.Places.{StandsIn}
@@ -17,19 +17,22 @@ use Rattle.elf_write.specs.Image.{image_part, code_part, kept, IsCodeAddress, Is
 use Rattle.elf_write.specs.ImageFile.{image_file}
 use Rattle.elf_write.specs.Written.{IsFileOf}
 use Rattle.elf_write.proofs.CallerLemmas.{fits_kept}
-use Rattle.code_at.specs.Code.{program_of, program_in}
+use Rattle.code_at.specs.Code.{Program, program_of, program_in}
 use Rattle.cfg_walk.specs.declared.code.Code.{Code}
 use Rattle.cfg_walk.specs.Code.{IsCodeOf, IsFileCode}
 use Rattle.cfg_walk.specs.Machine.{exits_of}
 use Rattle.cfg_walk.proofs.CallerLemmas.{program_read, file_code}
+use Rattle.flag_use.specs.Faults.{ReadsNoUndefined}
 use Rattle.fence_place.specs.Marked.{marked}
 use Rattle.a64_code.specs.declared.instr.XReg.{XReg}
 use Rattle.a64_table.specs.State.{AState}
 use Rattle.a64_block.specs.declared.block.ABlock.{ABlock}
 use Rattle.code_layout.specs.Carried.{IsCarriedOut}
 use Rattle.code_layout.specs.Places.{place_from}
+use Rattle.flag_use.proofs.CallerLemmas.{runs_paths}
 use Rattle.carry_spec.specs.Carries.{EachFollowsPlan, IsImageOf, NeverJumpsWrong}
-use Rattle.carry_spec.specs.Threads.{OfEachThread}
+use Rattle.carry_spec.specs.Defined.{ReadsDefinedFlags}
+use Rattle.carry_spec.specs.Threads.{OfEachThread, allowed, x64_start}
 use Rattle.carry_spec.specs.Faults.{HasNoFault}
 use Rattle.translate_core.specs.Passed.{ArePassed}
 use Rattle.translate_core.specs.Translated.{IsReadOf, IsCarried}
@@ -53,8 +56,8 @@ is_file_code input elf code read is = file_code input elf code (of_file input el
 
 -- no fault holds of a file that was read, and whose code was recovered
 pub no_fault : (input : List ℕ) (elf : Elf) (code : Code) → Clear (file.Holds input) (rank fault.TooLong) (rank fault.TooMuchCode) → IsReadOf input elf
-    → IsCodeOf (program_of elf) code → HasNoFault input
-no_fault input elf code clear read is = none
+    → IsCodeOf (program_of elf) code → ReadsNoUndefined (program_of elf) → HasNoFault input
+no_fault input elf code clear read is defined = none
   where
     own : IsFileCode input code
     own = is_file_code input elf code read is
@@ -72,15 +75,19 @@ no_fault input elf code clear read is = none
     none fault.SymbolTable from below (inl holds) = clear fault.SymbolTable (omega arith) (omega arith) holds
     none fault.NoThread from below (inl holds) = clear fault.NoThread (omega arith) (omega arith) holds
     none (fault.DoubleName i) from below (inl holds) = clear (fault.DoubleName i) (omega arith) (omega arith) holds
-    none fault.TooMuchCode from below (inr holds) = own.clear fault.TooMuchCode (omega arith) (omega arith) holds
-    none (fault.BadCode f) from below (inr holds) = own.clear (fault.BadCode f) (omega arith) (omega arith) holds
-    none (fault.UnbuiltCode a) from below (inr holds) = own.clear (fault.UnbuiltCode a) (omega arith) (omega arith) holds
-    none (fault.Overlap a) from below (inr holds) = own.clear (fault.Overlap a) (omega arith) (omega arith) holds
+    none fault.TooMuchCode from below (inr (inl holds)) = own.clear fault.TooMuchCode (omega arith) (omega arith) holds
+    none (fault.BadCode f) from below (inr (inl holds)) = own.clear (fault.BadCode f) (omega arith) (omega arith) holds
+    none (fault.Indirect a) from below (inr (inl holds)) = own.clear (fault.Indirect a) (omega arith) (omega arith) holds
+    none (fault.Overlap a) from below (inr (inl holds)) = own.clear (fault.Overlap a) (omega arith) (omega arith) holds
     none g from below (inl holds) = absurd holds
-    none g from below (inr holds) = absurd holds
+    none (fault.UndefinedFlag a) from below (inr (inr holds)) =
+        subst (λ (program : Program). ReadsNoUndefined program) (of_file input elf read) defined (fault.UndefinedFlag a) (omega arith) (omega arith) holds
+    none g from below (inr (inl holds)) = absurd holds
+    none g from below (inr (inr holds)) = absurd holds
 
 module _ (private : List Slot) (input out : List ℕ) (elf : Elf) (code : Code) (blocks : List (ABlock XReg)) (image : Image) (clear : Clear (file.Holds input) (rank fault.TooLong) (rank fault.TooMuchCode))
     (read : IsReadOf input elf) (is : IsCodeOf (program_of elf) code)
+    (defined : ReadsNoUndefined (program_of elf))
     (passed : ArePassed private code code.blocks blocks) (laid : IsLaidOutOf elf code blocks image) (written : IsFileOf image out) where
   segments : segments_of out ≡ kept (segments_of input) ++ code_part image.code_address image.words ∷ []
   segments = written.segments ∙ ap (λ ps. ps ++ code_part image.code_address image.words ∷ []) (laid.segments ∙ ap kept read.segments)
@@ -119,11 +126,17 @@ module _ (private : List Slot) (input out : List ℕ) (elf : Elf) (code : Code) 
 
   -- it carries the input
   pub image_carries : IsCarried (marked private) input out code image.code_address image.words
-  image_carries = carried private input out code image.code_address image.words blocks is_laid is_image_of (no_fault input elf code clear read is)
+  image_carries = carried private input out code image.code_address image.words blocks is_laid is_image_of (no_fault input elf code clear read is defined)
 
   -- and its runs follow the plan
   pub image_follows : EachFollowsPlan (marked private) input out code image.code_address image.words
   image_follows = each_follows_plan private input out code image.code_address image.words blocks is_laid
+
+  -- none of the input's reads an undefined flag
+  pub image_flags : ReadsDefinedFlags input code
+  image_flags stacks fits k from stack at stands addresses items end n takes =
+      runs_paths (program_in input) code is_laid.segments own (subst (λ (program : Program). ReadsNoUndefined program) (of_file input elf read) defined)
+      (allowed (segments_of input) stacks) (x64_start k stack from) (k, at) addresses items end n takes
 
   -- and none ends by a wrong jump
   pub image_jumps : OfEachThread input out code image.code_address image.words NeverJumpsWrong

@@ -33,8 +33,10 @@ use Rattle.a64_block.specs.declared.block.ABlock.{ABlock}
 use Rattle.a64_block.specs.Renamed.{renamed_end}
 use Rattle.code_layout.specs.Places.{end_size, block_size, blocks_size}
 use Rattle.code_layout.proofs.Literals.{all_at}
-use Rattle.carry_spec.specs.Plan.{AreOfEach}
-use Rattle.translate_core.specs.Passed.{ArePassed, IsPassed, IsWithin}
+use Rattle.a64_block.specs.Barriers.{barriers_in}
+use Rattle.fence_place.specs.Marked.{marked}
+use Rattle.carry_spec.specs.Plan.{AreOfEach, block_gaps}
+use Rattle.translate_core.specs.Passed.{ArePassed, IsPassed, IsWithin, gap_barriers}
 use Rattle.translate_core.proofs.Apart.{once, tail_sorted, sum_from, sum_later, begun_in, blocks_apart}
 
 -- ---- what one instruction pays for
@@ -250,23 +252,33 @@ module _ (program : Program) (code : Code) (is : IsCodeOf program code) where
 
   -- ---- blocks by where they begin
 
-  -- the same of the blocks that the passes made
-  pub passed_few : (private : List Slot) (blocks : List (ABlock XReg)) → ArePassed private code code.blocks blocks
-      → blocks_size blocks + 15 * length code.sites ≤ 64 * length code.placed
-  passed_few private blocks passed = words_fit blocks many (λ k b at ps are. same_within k b at ps are (all_at (IsPassed private code) blocks k b passed.passed at))
-    where
-      many : length blocks ≡ length code.blocks
-      many = sym (length-map blocks (λ (b : ABlock XReg). b.first)) ∙ ap length passed.begin ∙ length-map code.blocks (λ (b : Block). b.first)
+  module _ (private : List Slot) (blocks : List (ABlock XReg)) (passed : ArePassed private code code.blocks blocks) where
+    -- there are as many as blocks of the code
+    pub as_many : length blocks ≡ length code.blocks
+    as_many = sym (length-map blocks (λ (b : ABlock XReg). b.first)) ∙ ap length passed.begin ∙ length-map code.blocks (λ (b : Block). b.first)
 
-      same_within : (k : ℕ) (b : ABlock XReg) → slice_get blocks k ≡ Some b → (ps : List Placed) → AreOfBlock code k ps → IsPassed private code b → IsWithin ps b
-      same_within k b at ps are one =
-          let starts = slice_get-map (λ (b : ABlock XReg). b.first) blocks k ∙ ap (option_map (λ (b : ABlock XReg). b.first)) at in
-          let here : slice_get (map (λ (b : Block). b.first) code.blocks) k ≡ Some b.first = sym (ap (λ l. slice_get l k) passed.begin) ∙ starts in
-          let there = begun_in code.blocks one.known.0 one.block one.known.1 ∙ ap Some one.first in
-          let level : one.known.0 ≡ k = once (map (λ (b : Block). b.first) code.blocks) is.blocks.sorted one.known.0 k b.first there here in
-          let same : one.block ≡ are.block = some_same (sym one.known.1 ∙ ap (slice_get code.blocks) level ∙ are.here) in
-          let list = one_of_block program code is are.block one.ps ps (subst (λ (c : Block). AreOf code.placed c one.ps) same one.are) are.are in
-          subst (λ qs. IsWithin qs b) list one.within
+    -- one stands for the instructions of the block of its number
+    same_list : (k : ℕ) (b : ABlock XReg) → slice_get blocks k ≡ Some b → (ps : List Placed) → AreOfBlock code k ps → (one : IsPassed private code b) → one.ps ≡ ps
+    same_list k b at ps are one =
+        let starts = slice_get-map (λ (b : ABlock XReg). b.first) blocks k ∙ ap (option_map (λ (b : ABlock XReg). b.first)) at in
+        let here : slice_get (map (λ (b : Block). b.first) code.blocks) k ≡ Some b.first = sym (ap (λ l. slice_get l k) passed.begin) ∙ starts in
+        let there = begun_in code.blocks one.known.0 one.block one.known.1 ∙ ap Some one.first in
+        let level : one.known.0 ≡ k = once (map (λ (b : Block). b.first) code.blocks) is.blocks.sorted one.known.0 k b.first there here in
+        let same : one.block ≡ are.block = some_same (sym one.known.1 ∙ ap (slice_get code.blocks) level ∙ are.here) in
+        one_of_block program code is are.block one.ps ps (subst (λ (c : Block). AreOf code.placed c one.ps) same one.are) are.are
+
+    -- it has the barriers that are planned for them
+    pub each_planned : (k : ℕ) (one : Block) (b : ABlock XReg) → slice_get code.blocks k ≡ Some one → slice_get blocks k ≡ Some b → (ps : List Placed) → AreOf code.placed one ps
+        → barriers_in b.steps ≡ gap_barriers (block_gaps (marked private) ps)
+    each_planned k one b at here ps are =
+        let passes = all_at (IsPassed private code) blocks k b passed.passed here in
+        subst (λ qs. barriers_in b.steps ≡ gap_barriers (block_gaps (marked private) qs)) (same_list k b here ps (record { block = one; here = at; are = are }) passes) passes.barriers
+
+    -- and their words are few
+    pub passed_few : blocks_size blocks + 15 * length code.sites ≤ 64 * length code.placed
+    passed_few = words_fit blocks as_many (λ k b at ps are.
+        let one = all_at (IsPassed private code) blocks k b passed.passed at in
+        subst (λ qs. IsWithin qs b) (same_list k b at ps are one) one.within)
 
   -- so they fit where they are laid out
   pub passed_fit : (private : List Slot) (blocks : List (ABlock XReg)) → ArePassed private code code.blocks blocks

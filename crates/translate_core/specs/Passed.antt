@@ -2,7 +2,9 @@
 use Rattle.std.specs.Prelude.{◌≡◌, ◌≢◌, ◌≤◌, ℕ, List, length, flat_map, map, sum_by}
 use Rattle.std.specs.List.{AllByRecursion}
 use Rattle.ev_graph.specs.Places.{StandsIn}
+use Rattle.ev_graph.specs.declared.events.FenceKind.{FenceKind}
 use Rattle.ev_graph.specs.declared.events.TrapKind.TheVariants.{BadAccess}
+use Rattle.behavior.specs.Seen.{barrier}
 use Rattle.x64_syntax.specs.declared.placed.Placed.{Placed}
 use Rattle.x64_syntax.specs.declared.slots.Slot.{Slot}
 use Rattle.cfg_walk.specs.declared.code.Block.{Block}
@@ -15,6 +17,8 @@ use Rattle.lift_alu.specs.Meant.{most_words}
 use Rattle.lift.specs.Block.{LiftsBlock, end_from}
 use Rattle.fence_place.specs.Fenced.{KeepsPlaced}
 use Rattle.fence_place.specs.Marked.{marked}
+use Rattle.fence_plan.specs.Gaps.{fences_of}
+use Rattle.fence_plan.specs.declared.gap.Gap.{Gap}
 use Rattle.fence_merge.specs.Roles.{stations}
 use Rattle.fence_merge.specs.Follows.{FollowsPlanOf}
 use Rattle.isel.specs.Groups.{selected_end}
@@ -22,13 +26,14 @@ use Rattle.isel.specs.Selected.{MeansSteps}
 use Rattle.regalloc.specs.Allocated.{MeansNumbers}
 use Rattle.a64_code.specs.declared.instr.XReg.{XReg}
 use Rattle.a64_code.specs.declared.instr.A64.{A64}
+use Rattle.a64_block.specs.Barriers.{barriers_in}
 use Rattle.a64_block.specs.Conditions.{IsLayable}
 use Rattle.a64_block.specs.Renamed.{IsRenamedEnd}
 use Rattle.a64_block.specs.declared.block.ABlock.{ABlock}
 use Rattle.a64_block.specs.declared.block.AEnd.{AEnd}
 use Rattle.a64_block.specs.declared.block.AEnd.TheVariants as ends
 use Rattle.code_layout.specs.Places.{firsts}
-use Rattle.carry_spec.specs.Plan.{stations_of}
+use Rattle.carry_spec.specs.Plan.{stations_of, block_gaps}
 
 -- What the passes say of a block's instructions and its words: each pass keeps the meaning, the steps count for the plan what
 -- the instructions count, and the merged steps follow it.
@@ -50,6 +55,10 @@ pub record IsWithin (ps : List Placed) (b : ABlock XReg) : Type 0 where
   pub few : length b.steps ≤ sum_by most_words ps
   pub end : IsRenamedEnd (selected_end (end_from 0 ps)) b.end
 
+-- the barriers of the fences that gaps hold, in order
+abbrev pub gap_barriers : List Gap → List FenceKind
+gap_barriers gs = flat_map (λ (g : Gap). map barrier (fences_of g)) gs
+
 -- a block of words that the passes made of a block of the code
 pub record IsPassed (private : List Slot) (code : Code) (b : ABlock XReg) : Type 0 where
   pub block : Block
@@ -58,6 +67,7 @@ pub record IsPassed (private : List Slot) (code : Code) (b : ABlock XReg) : Type
   pub are : AreOf code.placed block ps
   pub first : block.first ≡ b.first
   pub within : IsWithin ps b
+  pub barriers : barriers_in b.steps ≡ gap_barriers (block_gaps (marked private) ps)
   pub passes : Passes private ps b.steps b.end
 
 -- Where a block leads to that ends so, blocks of the code begin. None leads to a table's entries, and none ends by the trap of an

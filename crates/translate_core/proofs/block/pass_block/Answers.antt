@@ -1,11 +1,13 @@
 use Rattle.std.proofs.Common.{sym, ap, ◌∙◌, subst, arith}
 use Rattle.cfg_walk.proofs.Instructions.{block_stretch}
 use Rattle.lift.proofs.CallerLemmas.{instructions, are_lifted}
+use Rattle.fence_merge.proofs.CallerLemmas.{placed_gaps}
 use Rattle.isel.specs.Groups.{selected_end}
 use Rattle.isel.specs.Selected.{MeansSteps}
 use Rattle.a64_block.specs.Renamed.{IsRenamedEnd}
 use Rattle.translate_core.specs.Passed.{LeadsOn}
 use Rattle.translate_core.proofs.Ended.{leads_renamed, leads_from}
+use Rattle.translate_core.proofs.BlockBarriers.{planned_barriers}
 use Rattle.translate_core.proofs.BlockStations.{steps_count}
 use Rattle.translate_core.proofs.block.pass_block.Goals as goal
 
@@ -28,6 +30,9 @@ returns-clause-passed c =
         few = omega (arith, words.ensures.many, selected.ensures.few, merged.ensures.few lifted.lifted.steps fenced.ensures.fences, lifted.ensures.few ps are);
         end = subst (λ e. IsRenamedEnd e words.words.end) (selected.ensures.end ∙ ap selected_end (merged.ensures.end ∙ fenced.ensures.end ∙ lifted.ensures.end ps are)) words.ensures.end;
       };
+      barriers = words.ensures.barriers ∙ selected.ensures.barriers
+          ∙ planned_barriers private ps lifted.lifted.steps fenced.fenced.steps merged.merged.steps (placed_gaps private lifted.lifted.steps fenced.fenced.steps fenced.ensures.fences)
+          (steps_count private 0 ps lifted.lifted.steps (lifted.ensures.steps ps are)) merged.ensures.planned;
       first = sym (words.ensures.first ∙ selected.ensures.first ∙ merged.ensures.first ∙ fenced.ensures.first ∙ lifted.ensures.first are.block are.here);
       passes = record {
         steps = lifted.lifted.steps;
