@@ -29,6 +29,21 @@ mov ecx, 4; call 401012; mov rdi, rax; jmp 402010; 401012: test rcx, rcx; je 401
 lea rax, [rax + rax + 1]; 401024: ret\n\
 E801000000C34885C07401C3BF07000000E9FA0F0000 halts 7 ; \
 call 401006; ret; 401006: test rax, rax; je 40100C; ret; 40100C: mov edi, 7; jmp 402010\n\
+BA00000080BFFFFFFFFFF7FFC3 divide ; mov edx, 80000000; mov edi, -1; idiv edi; ret\n\
+B80000008099BFFFFFFFFFF7FFC3 divide ; mov eax, 80000000; cdq; mov edi, -1; idiv edi; ret\n\
+B811000000F77424F0C3 divide ; mov eax, 17; div dword ptr [rsp - 16]; ret\n\
+B8E8030000BA00000000B907000000F7F189D7E9F80F0000 halts 6 ; \
+mov eax, 1000; mov edx, 0; mov ecx, 7; div ecx; mov edi, edx; jmp 402010\n\
+BF01000000B906000000480FAFF948FFC975F7E9F80F0000 halts 2D0 ; \
+mov edi, 1; mov ecx, 6; 40100A: imul rdi, rcx; dec rcx; jne 40100A; jmp 402010\n\
+BA05000000F0480FC15424F8F0480FC15424F8488D3C1248037C24F8E9EF0F0000 halts F ; \
+mov edx, 5; lock xadd [rsp - 8], rdx; lock xadd [rsp - 8], rdx; lea rdi, [rdx + rdx]; add rdi, [rsp - 8]; \
+jmp 402010\n\
+BA05000000F0480FB15424F87511F0480FB15424F874084889C7E9F10F00000F0B halts 5 ; \
+mov edx, 5; lock cmpxchg [rsp - 8], rdx; jne 40101F; lock cmpxchg [rsp - 8], rdx; je 40101F; mov rdi, rax; \
+jmp 402010; 40101F: ud2\n\
+BF81000000B90400000040D2C7C1E702D1FFE9F90F0000 halts 30 ; \
+mov edi, 81; mov ecx, 4; rol dil, cl; shl edi, 2; sar edi, 1; jmp 402010\n\
 ";
 
 /// The stack pointer at the start: 8 below the end of the cells, which are 0.
@@ -101,6 +116,7 @@ fn end_of(name: &str) -> Option<End> {
         "bad-return" => Some(End::Trap(TrapKind::BadReturn)),
         "bad-access" => Some(End::Trap(TrapKind::BadAccess)),
         "invalid" => Some(End::Trap(TrapKind::Invalid)),
+        "divide" => Some(End::Trap(TrapKind::Divide)),
         _ => None,
     }
 }

@@ -11,6 +11,9 @@ const CONDITIONS: [u8; 14] = [0, 1, 2, 3, 4, 5, 6, 7, 8, 9, 12, 13, 14, 15];
 /// A REX byte without W, R, X and B.
 const REX: u8 = 0x40;
 
+/// The prefix that locks memory.
+const LOCK: u8 = 0xF0;
+
 /// W of a REX byte.
 const WIDE: u8 = 0x48;
 
@@ -56,9 +59,10 @@ impl Generator {
         Ok(())
     }
 
-    /// An ordinary instruction: no branch, and nothing but data registers, cells and flags is changed.
+    /// An ordinary instruction: no branch, and nothing but data registers, cells and flags is changed. No flag is left
+    /// undefined.
     fn instruction(&mut self) -> Result<(), AllocError> {
-        match self.random.below(16) {
+        match self.random.below(20) {
             0..=2 => self.of_registers(),
             3 | 4 => self.of_cell(),
             5 => self.of_number(),
@@ -71,6 +75,10 @@ impl Generator {
             12 => self.push_and_pop(),
             13 => self.wide_number(),
             14 => self.address(),
+            15 => self.locked(),
+            16 => self.exchange_cell(),
+            17 => self.multiply(),
+            18 => self.shift(),
             _ => self.code.push(b"\x0F\xAE\xF0"), // mfence
         }
     }
@@ -96,9 +104,11 @@ impl Generator {
     }
 
     /// A prefix, an opcode and the ModRM byte of a register and a cell of the first 16.
-    fn with_cell(&mut self, rex: u8, opcode: u8, r: u8) -> Result<(), AllocError> {
+    fn with_cell(&mut self, rex: u8, opcode: &[u8], r: u8) -> Result<(), AllocError> {
         let distance = self.random.below(121);
-        self.code.push(&[rex | r >> 3 << 2, opcode, 0x47 | (r & 7) << 3, distance])
+        self.code.push(&[rex | r >> 3 << 2])?;
+        self.code.push(opcode)?;
+        self.code.push(&[0x47 | (r & 7) << 3, distance])
     }
 
     /// ADD, OR, ADC, SBB, AND, SUB, XOR, CMP or TEST of two registers.
@@ -117,7 +127,7 @@ impl Generator {
         } else {
             0
         };
-        self.with_cell(rex, opcode | into_register, r)
+        self.with_cell(rex, &[opcode | into_register], r)
     }
 
     /// The same of a register and a number of eight bits, without TEST.
@@ -144,7 +154,7 @@ impl Generator {
     fn move_cell(&mut self) -> Result<(), AllocError> {
         let (rex, r) = (self.width(), self.data());
         let opcode = self.random.one_of(&[0x88, 0x89, 0x8A, 0x8B]);
-        self.with_cell(rex, opcode, r)
+        self.with_cell(rex, &[opcode], r)
     }
 
     /// SETcc.
@@ -199,5 +209,51 @@ impl Generator {
     fn address(&mut self) -> Result<(), AllocError> {
         let (r, number) = (self.data(), self.random.below(255));
         self.code.push(&[WIDE | r >> 3 << 2, 0x8D, 0x44 | (r & 7) << 3, 0x5F, number])
+    }
+
+    /// ADD, OR, ADC, SBB, AND, SUB or XOR of a register to a cell, locked.
+    fn locked(&mut self) -> Result<(), AllocError> {
+        let (rex, r) = (self.width(), self.data());
+        let opcode = self.random.one_of(&[
+            0x00, 0x01, 0x08, 0x09, 0x10, 0x11, 0x18, 0x19, 0x20, 0x21, 0x28, 0x29, 0x30, 0x31,
+        ]);
+        self.code.push(&[LOCK])?;
+        self.with_cell(rex, &[opcode], r)
+    }
+
+    /// XCHG, XADD or CMPXCHG of a cell and a register, locked.
+    fn exchange_cell(&mut self) -> Result<(), AllocError> {
+        let (rex, r) = (self.width(), self.data());
+        self.code.push(&[LOCK])?;
+        match self.random.below(3) {
+            0 => self.with_cell(rex, &[0x87], r),
+            1 => self.with_cell(rex, &[0x0F, 0xC1], r),
+            _ => self.with_cell(rex, &[0x0F, 0xB1], r),
+        }
+    }
+
+    /// IMUL of two registers, MUL of one, and a TEST behind it, which defines the flags.
+    fn multiply(&mut self) -> Result<(), AllocError> {
+        let (rex, r, b) = (self.width(), self.data(), self.data());
+        if self.random.below(2) == 0 {
+            self.two(rex, &[0x0F, 0xAF], r, b)?;
+        } else {
+            self.two(rex, &[0xF7], 4, b)?;
+        }
+        self.two(rex, &[0x85], r, r)
+    }
+
+    /// ROL, ROR, SHL, SHR or SAR of a register by a number or by CL, and a TEST behind it, which defines the flags.
+    fn shift(&mut self) -> Result<(), AllocError> {
+        let (rex, b) = (self.width(), self.data());
+        let operation = self.random.one_of(&[0, 1, 4, 5, 7]);
+        if self.random.below(2) == 0 {
+            let count = self.random.below(70);
+            self.two(rex, &[0xC1], operation, b)?;
+            self.code.push(&[count])?;
+        } else {
+            self.two(rex, &[0xD3], operation, b)?;
+        }
+        self.two(rex, &[0x85], b, b)
     }
 }

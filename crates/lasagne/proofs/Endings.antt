@@ -1,6 +1,6 @@
 -- How the parts of a command's end come together.
 use Rattle.std.proofs.Common.{◌≡◌, ℕ, ◌<◌, ◌≤◌, List, [], ◌∷◌, length, arith, sym, ◌∙◌, ap, subst, inl, inr, get_or}
-use Rattle.std.specs.Prelude.{Option, Some, None, IfSome, codes}
+use Rattle.std.specs.Prelude.{Option, Some, None, IfSome}
 use Rattle.lasagne.specs.declared.command.Status.{Status}
 use Rattle.lasagne.specs.declared.command.Status.TheVariants as status
 use Rattle.lz_ports.specs.Ports.{Files, Rose, IsPut, IsTorn, IsLonger, Told, Took, TookPart}
@@ -8,9 +8,12 @@ use Rattle.elf_read.specs.declared.fault.FileFault.{FileFault}
 use Rattle.elf_read.specs.declared.fault.FileFault.TheVariants as file
 use Rattle.elf_read.specs.FirstFault.{rank, Before}
 use Rattle.cfg_walk.specs.declared.code.Code.{Code}
+use Rattle.carry_spec.specs.declared.plan.BlockPlan.{BlockPlan}
+use Rattle.carry_spec.specs.declared.summary.Summary.{Summary}
 use Rattle.carry_spec.specs.Faults.{IsRefusedFor}
 use Rattle.lasagne.specs.Image.{IsImageFor}
-use Rattle.lasagne.specs.Command.{World, Ends, Answers, IsSaid, OfImage, SameFiles}
+use Rattle.lasagne.specs.Command.{World, EndsPlan, EndsTranslate, IsSaid, OfImage, OfPlan, SameFiles, SameTaken, IsRefusal}
+use Rattle.lasagne.specs.Plan.{HasPlan, plan_text}
 use Rattle.lasagne.specs.Texts.{refused_line}
 
 -- a count that rose later rose
@@ -42,12 +45,24 @@ pub read_same : (files : Option Files) (name items bytes : List ℕ) → bytes �
 read_same None name items bytes same read = read
 read_same (Some f) name items bytes same read = read ∙ ap Some (sym same)
 
--- the end of a refusal
-pub refused : (result : Status) (from to : List ℕ) (old new : World) (why : FileFault)
+-- the end of a refusal, by a table that has these two ends
+pub refused : (Table : Status → Type 0) (result : Status) (from : List ℕ) (old new : World) (why : FileFault)
+    → (SameFiles old new × IsRefusal from old new → Table status.Refused) → (SameTaken old new × SameFiles old new → Table status.NoMemory)
     → IfSome old.files (λ files. (bytes : List ℕ) × (files from ≡ Some bytes) × IsRefusedFor bytes why) → SameFiles old new
-    → IsSaid (refused_line why) status.Refused old.taken old.sink_faults new.taken new.sink_faults result → Ends result from to old new
-refused result from to old new why fault same (inl said) = subst (λ s. Ends s from to old new) (sym said.0) (same, (why, fault, said.1))
-refused result from to old new why fault same (inr none) = subst (λ s. Ends s from to old new) (sym none.0) (none.1, inl same)
+    → IsSaid (refused_line why) status.Refused old.taken old.sink_faults new.taken new.sink_faults result → Table result
+refused Table result from old new why is_refused no_memory fault same (inl said) = subst Table (sym said.0) (is_refused (same, (why, fault, said.1)))
+refused Table result from old new why is_refused no_memory fault same (inr none) = subst Table (sym none.0) (no_memory (none.1, same))
+
+pub translate_refused : (result : Status) (from to : List ℕ) (old new : World) (why : FileFault)
+    → IfSome old.files (λ files. (bytes : List ℕ) × (files from ≡ Some bytes) × IsRefusedFor bytes why) → SameFiles old new
+    → IsSaid (refused_line why) status.Refused old.taken old.sink_faults new.taken new.sink_faults result → EndsTranslate result from to old new
+translate_refused result from to old new why =
+    refused (λ s. EndsTranslate s from to old new) result from old new why (λ is. is) (λ none. (none.0, inl none.1))
+
+pub plan_refused : (result : Status) (from : List ℕ) (old new : World) (why : FileFault)
+    → IfSome old.files (λ files. (bytes : List ℕ) × (files from ≡ Some bytes) × IsRefusedFor bytes why) → SameFiles old new
+    → IsSaid (refused_line why) status.Refused old.taken old.sink_faults new.taken new.sink_faults result → EndsPlan result from old new
+plan_refused result from old new why = refused (λ s. EndsPlan s from old new) result from old new why (λ is. is) (λ none. none)
 
 -- an image that was made of what was read
 pub of_image : (P : List ℕ → Code → List ℕ → Type 0) (from : List ℕ) (old : World) (items input image : List ℕ) → input ≡ items
@@ -70,18 +85,18 @@ took_line old new text written same told = subst (λ (t : List ℕ). Told old ne
 pub took_part : (old new : Option (List ℕ)) (text written : List ℕ) → text ≡ written → Told old new (TookPart text) → Told old new (TookPart written)
 took_part old new text written same told = subst (λ (t : List ℕ). Told old new (TookPart t)) same told
 
--- the end of a command is an answer to its words
-pub answered : (result : Status) (words : List (List ℕ)) (from to : List ℕ) (old new : World) → words ≡ codes "translate" ∷ from ∷ to ∷ []
-    → Ends result from to old new → Answers result words old new
-answered status.Done words from to old new shape ends = (from, to, shape, ends)
-answered status.Refused words from to old new shape ends = (from, to, shape, ends)
-answered status.ReadFailed words from to old new shape ends = (from, to, shape, ends)
-answered status.WriteFailed words from to old new shape ends = (from, to, shape, ends)
-answered status.OutFailed words from to old new shape ends = (from, to, shape, ends)
-answered status.NotExplained words from to old new shape ends = (from, to, shape, ends)
-answered status.Usage words from to old new shape ends = absurd ends
-answered status.NoMemory words from to old new shape (same, inl files) = (same, inl files)
-answered status.NoMemory words from to old new shape (same, inr image) = (same, inr (from, to, shape, image))
+-- the text of the plan of what was read, where no file was touched
+pub of_plan : (P : List ℕ → Type 0) (from : List ℕ) (old new : World) (items input : List ℕ) (plan : List BlockPlan) (summary : Summary)
+    → SameFiles old new → input ≡ items → IfSome old.files (λ f. f from ≡ Some items) → HasPlan input plan summary → P (plan_text plan summary) → OfPlan from old new P
+of_plan P from old new items input plan summary untouched same read has holds =
+    (untouched, input, plan, summary, has, read_same old.files from items input same read, holds)
+
+-- a list of two
+pub two : (xs : List (List ℕ)) (a b : List ℕ) → 2 ≤ length xs → length xs < 3 → a ≡ get_or xs 0 a → b ≡ get_or xs 1 b → xs ≡ a ∷ b ∷ []
+two [] a b low high p q = absurd (omega arith)
+two (x ∷ []) a b low high p q = absurd (omega arith)
+two (x ∷ y ∷ []) a b low high p q = cc
+two (x ∷ y ∷ z ∷ zs) a b low high p q = absurd (omega arith)
 
 -- a list of three
 pub three : (xs : List (List ℕ)) (a b c : List ℕ) → 3 ≤ length xs → length xs < 4

@@ -1,13 +1,16 @@
 -- How a call ends: for each status when it comes, and what it leaves.
-use Rattle.std.specs.Prelude.{◌≡◌, ◌⊎◌, ℕ, List, [], ◌∷◌, codes, Option, Some, IfSome}
+use Rattle.std.specs.Prelude.{◌≡◌, ◌⊎◌, ℕ, List, Option, Some, IfSome}
 use Rattle.lasagne.specs.declared.command.Status.{Status}
 use Rattle.lasagne.specs.declared.command.Status.TheVariants.{Done, Refused, Usage, ReadFailed, WriteFailed, NoMemory, NotExplained, OutFailed}
 use Rattle.lz_ports.specs.Ports.{Files, Rose, IsPut, IsTorn, Told, Took, TookPart}
 use Rattle.elf_read.specs.declared.fault.FileFault.{FileFault}
 use Rattle.cfg_walk.specs.declared.code.Code.{Code}
+use Rattle.carry_spec.specs.declared.plan.BlockPlan.{BlockPlan}
 use Rattle.carry_spec.specs.declared.summary.Summary.{Summary}
 use Rattle.carry_spec.specs.Faults.{IsRefusedFor}
 use Rattle.lasagne.specs.Image.{IsImageFor, HasSummary}
+use Rattle.lasagne.specs.Plan.{HasPlan, plan_text}
+use Rattle.lasagne.specs.Shape.{Shape, Translate, Plan, words_of, HasNoShape}
 use Rattle.lasagne.specs.Texts.{usage_line, refused_line, translated_line}
 
 -- What is told of the outside at a moment: the files, what the sink has taken, and the two counts of faults.
@@ -16,14 +19,6 @@ pub record World : Type 0 where
   pub taken : Option (List ℕ)
   pub shelf_faults : ℕ
   pub sink_faults : ℕ
-
--- the words are `translate IN OUT`, and this holds of IN and OUT
-abbrev pub OfTranslate : List (List ℕ) → (List ℕ → List ℕ → Type 0) → Type 0
-OfTranslate words P = (from : List ℕ) × (to : List ℕ) × (words ≡ codes "translate" ∷ from ∷ to ∷ []) × P from to
-
--- the words are those of no command
-abbrev pub HasNoShape : List (List ℕ) → Type 0
-HasNoShape words = (from to : List ℕ) → words ≡ codes "translate" ∷ from ∷ to ∷ [] → ⊥
 
 -- no file is touched; nothing is written
 abbrev pub SameFiles : World → World → Type 0
@@ -59,23 +54,53 @@ abbrev pub IsRefusal : List ℕ → World → World → Type 0
 IsRefusal from old new = (why : FileFault) × HasFault from old why × Says (refused_line why) old new
 
 -- The table of ends of `translate IN OUT`. Each status has its cause; want of memory alone is free.
-abbrev pub Ends : Status → List ℕ → List ℕ → World → World → Type 0
-Ends Done from to old new = HasImageAnd from to old new (λ summary. Told old.taken new.taken (Took (translated_line summary)))
-Ends Refused from to old new = SameFiles old new × IsRefusal from old new
-Ends ReadFailed from to old new = Rose old.shelf_faults new.shelf_faults × SameFiles old new × SameTaken old new
-Ends WriteFailed from to old new =
+abbrev pub EndsTranslate : Status → List ℕ → List ℕ → World → World → Type 0
+EndsTranslate Done from to old new = HasImageAnd from to old new (λ summary. Told old.taken new.taken (Took (translated_line summary)))
+EndsTranslate Refused from to old new = SameFiles old new × IsRefusal from old new
+EndsTranslate ReadFailed from to old new = Rose old.shelf_faults new.shelf_faults × SameFiles old new × SameTaken old new
+EndsTranslate WriteFailed from to old new =
     Rose old.shelf_faults new.shelf_faults × OfImage from old (λ input code image. Told old.files new.files (IsTorn to image)) × SameTaken old new
-Ends OutFailed from to old new =
+EndsTranslate OutFailed from to old new =
     Rose old.sink_faults new.sink_faults × HasImageAnd from to old new (λ summary. Told old.taken new.taken (TookPart (translated_line summary)))
-Ends NoMemory from to old new = SameTaken old new × (SameFiles old new ⊎ HasImage from to old new)
-Ends Usage from to old new = ⊥
-Ends NotExplained from to old new = ⊥
+EndsTranslate NoMemory from to old new = SameTaken old new × (SameFiles old new ⊎ HasImage from to old new)
+EndsTranslate Usage from to old new = ⊥
+EndsTranslate NotExplained from to old new = ⊥
 
--- The table of answers: usage is told exactly of words that are no command, and all other ends are those of a command.
+-- no file is touched, and of the text of the plan of the bytes under a name this holds
+abbrev pub OfPlan : List ℕ → World → World → (List ℕ → Type 0) → Type 0
+OfPlan from old new P =
+    SameFiles old new
+    × (input : List ℕ) × (plan : List BlockPlan) × (summary : Summary) × HasPlan input plan summary
+    × IfSome old.files (λ files. files from ≡ Some input) × P (plan_text plan summary)
+
+-- The table of ends of `plan IN`, which puts nothing.
+abbrev pub EndsPlan : Status → List ℕ → World → World → Type 0
+EndsPlan Done from old new = OfPlan from old new (λ text. Told old.taken new.taken (Took text))
+EndsPlan Refused from old new = SameFiles old new × IsRefusal from old new
+EndsPlan ReadFailed from old new = Rose old.shelf_faults new.shelf_faults × SameFiles old new × SameTaken old new
+EndsPlan OutFailed from old new =
+    Rose old.sink_faults new.sink_faults × OfPlan from old new (λ text. Told old.taken new.taken (TookPart text))
+EndsPlan NoMemory from old new = SameTaken old new × SameFiles old new
+EndsPlan WriteFailed from old new = ⊥
+EndsPlan Usage from old new = ⊥
+EndsPlan NotExplained from old new = ⊥
+
+-- how a command ends, a row for each shape
+abbrev pub Ends : Shape → Status → World → World → Type 0
+Ends (Translate from to) status = EndsTranslate status from to
+Ends (Plan from) status = EndsPlan status from
+
+-- The table of ends where the words are no command: usage is told, but for want of memory.
+abbrev pub EndsUsage : Status → World → World → Type 0
+EndsUsage Usage old new = SameFiles old new × Says usage_line old new
+EndsUsage NoMemory old new = SameFiles old new × SameTaken old new
+EndsUsage status old new = ⊥
+
+-- The table of answers: the words are one command, and the end is one of its ends, or they are none. So usage is told exactly of
+-- words that are no command.
 abbrev pub Answers : Status → List (List ℕ) → World → World → Type 0
-Answers Usage words old new = HasNoShape words × SameFiles old new × Says usage_line old new
-Answers NoMemory words old new = SameTaken old new × (SameFiles old new ⊎ OfTranslate words (λ from to. HasImage from to old new))
-Answers status words old new = OfTranslate words (λ from to. Ends status from to old new)
+Answers status words old new =
+    ((shape : Shape) × (words ≡ words_of shape) × Ends shape status old new) ⊎ (HasNoShape words × EndsUsage status old new)
 
 -- A line was written to tell of a status, which stands but for want of memory.
 abbrev pub IsSaid : List ℕ → Status → Option (List ℕ) → ℕ → Option (List ℕ) → ℕ → Status → Type 0

@@ -1,3 +1,5 @@
 pub mod Command
 pub mod Image
+pub mod Plan
+pub mod Shape
 pub mod Texts

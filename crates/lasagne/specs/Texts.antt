@@ -42,7 +42,6 @@ file_fault_text (file.DoubleName i) = codes "DoubleName " ++ decimal i
 file_fault_text file.TooMuchCode = codes "TooMuchCode"
 file_fault_text (file.BadCode fault) = codes "BadCode " ++ (hex fault.address ++ (codes " " ++ kind_name fault.kind))
 file_fault_text (file.Indirect a) = codes "Indirect " ++ hex a
-file_fault_text (file.UnbuiltCode a) = codes "UnbuiltCode " ++ hex a
 file_fault_text (file.Overlap a) = codes "Overlap " ++ hex a
 file_fault_text (file.TableEntered a) = codes "TableEntered " ++ hex a
 file_fault_text (file.UndefinedFlag a) = codes "UndefinedFlag " ++ hex a

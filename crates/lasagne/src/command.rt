@@ -1,8 +1,9 @@
 ghost use Rattle.std.specs.Prelude.{◌≡◌, ◌≢◌, codes, MatchBool};
-ghost use Rattle.lasagne.specs.Command.{World, Answers, Ends, IsSaid};
+ghost use Rattle.lasagne.specs.Command.{World, Answers, EndsPlan, EndsTranslate, IsSaid};
 ghost use Rattle.lasagne.specs.Texts.{refused_line};
 ghost use Rattle.lasagne.specs.declared.command.Status.TheVariants.{Refused};
 
+use crate::plan::plan_text;
 use crate::texts::{USAGE, refused_line, translated_line};
 use crate::word::Word;
 use elf_read::{FileFault, TransFault};
@@ -30,6 +31,12 @@ fn is_translate(word: &Word) -> bool
     ensures { MatchBool result (word.now ≡ codes "translate") (word.now ≢ codes "translate") }
 {
     word.as_str() == "translate"
+}
+
+fn is_plan(word: &Word) -> bool
+    ensures { MatchBool result (word.now ≡ codes "plan") (word.now ≢ codes "plan") }
+{
+    word.as_str() == "plan"
 }
 
 /// Writes a line that tells how the call ends. What the call ends with stands even where the write
@@ -61,7 +68,7 @@ fn translate_command<H: Shelf, O: Sink>(
     shelf: &mut H,
     out: &mut O,
 ) -> Status
-    ensures { Ends result from.now to.now
+    ensures { EndsTranslate result from.now to.now
         (record { files = H.files shelf.old; taken = O.taken out.old; shelf_faults = H.faults shelf.old; sink_faults = O.faults out.old })
         (record { files = H.files shelf.new; taken = O.taken out.new; shelf_faults = H.faults shelf.new; sink_faults = O.faults out.new }) }
 {
@@ -91,10 +98,38 @@ fn translate_command<H: Shelf, O: Sink>(
     }
 }
 
+/// Writes the fence plan of the file under a name, and puts nothing.
+fn plan_command<H: Shelf, O: Sink>(alloc: Global, from: &str, shelf: &mut H, out: &mut O) -> Status
+    ensures { EndsPlan result from.now
+        (record { files = H.files shelf.old; taken = O.taken out.old; shelf_faults = H.faults shelf.old; sink_faults = O.faults out.old })
+        (record { files = H.files shelf.new; taken = O.taken out.new; shelf_faults = H.faults shelf.new; sink_faults = O.faults out.new }) }
+{
+    let input = match shelf.get(alloc, from, INPUT_LIMIT) {
+        Ok(bytes) => bytes,
+        Err(GetFault::Failed) => return Status::ReadFailed,
+        Err(GetFault::TooLong) => return refuse(alloc, out, FileFault::TooLong),
+        Err(GetFault::NoMemory) => return Status::NoMemory,
+    };
+    let made = match translate(alloc, &input) {
+        Ok(made) => made,
+        Err(TransFault::File(why)) => return refuse(alloc, out, why),
+        Err(TransFault::NoMemory) => return Status::NoMemory,
+    };
+    let Ok(text) = plan_text(alloc, made.plan.as_slice(), made.summary) else {
+        return Status::NoMemory;
+    };
+    match out.write_all(text.as_bytes()) {
+        Ok(()) => Status::Done,
+        Err(SinkFault::Failed) => Status::OutFailed,
+        Err(SinkFault::NoMemory) => Status::NoMemory,
+    }
+}
+
 /// Serves the command that the words tell.
 ///
 /// `translate IN OUT` translates the file under the name IN, puts its image under the name OUT, and
-/// writes a line that sums it up.
+/// writes a line that sums it up. `plan IN` writes the fence plan of the file under the name IN, and
+/// puts nothing.
 pub fn run<H: Shelf, O: Sink>(alloc: Global, words: &[Word], shelf: &mut H, out: &mut O) -> Status
     ensures { Answers result words.now
         (record { files = H.files shelf.old; taken = O.taken out.old; shelf_faults = H.faults shelf.old; sink_faults = O.faults out.old })
@@ -104,6 +139,7 @@ pub fn run<H: Shelf, O: Sink>(alloc: Global, words: &[Word], shelf: &mut H, out:
         [verb, from, to] if is_translate(verb) => {
             translate_command(alloc, from.as_str(), to.as_str(), shelf, out)
         }
+        [verb, from] if is_plan(verb) => plan_command(alloc, from.as_str(), shelf, out),
         _ => say(out, USAGE, Status::Usage),
     }
 }

@@ -4,6 +4,7 @@
 #![tactic(auto)]
 
 mod command;
+mod plan;
 #[cfg(test)]
 mod tests;
 mod texts;

@@ -1,3 +1,5 @@
+mod plan;
+
 use crate::{Status, Word, run};
 use elf_format::Symbol;
 use ev_graph::List;
@@ -7,7 +9,7 @@ use std::alloc::Global;
 use std::test::Fail;
 
 const LEAST_LINE: &[u8] =
-    b"translated 1 threads, 1 instructions, 1 blocks, 1 accesses, 0 private, 1 frm, 0 fww, 0 fsc\n";
+    b"translated 1 threads, 1 instructions, 1 blocks, 1 accesses, 1 private, 0 frm, 0 fww, 0 fsc\n";
 
 /// Parts of the least file's image: the program headers, of 401000 with flag R, of 404000 with R and W, and of twelve
 /// words of code at 410000 with X alone; and the words, of the block: mov x16, x4; ldr x16, [x16]; mov x17, x4;
@@ -23,11 +25,11 @@ const IMAGE: [(usize, &[u8]); 4] = [
     ),
     (
         176,
-        b"\x01\0\0\0\x01\0\0\0\0\x30\0\0\0\0\0\0\0\0\x41\0\0\0\0\0\0\0\x41\0\0\0\0\0\x30\0\0\0\0\0\0\0\x30\0\0\0\0\0\0\0\0\x10\0\0\0\0\0\0",
+        b"\x01\0\0\0\x01\0\0\0\0\x30\0\0\0\0\0\0\0\0\x41\0\0\0\0\0\0\0\x41\0\0\0\0\0\x2C\0\0\0\0\0\0\0\x2C\0\0\0\0\0\0\0\0\x10\0\0\0\0\0\0",
     ),
     (
         0x3000,
-        b"\xF0\x03\x04\xAA\x10\x02\x40\xF9\xF1\x03\x04\xAA\x17\x01\x80\xD2\x31\x02\x17\x8B\xE4\x03\x11\xAA\xBF\x39\x03\xD5\xF0\x03\x10\xAA\x01\0\0\x14\x50\0\0\xB5\x61\0\0\xD4\x60\0\x20\xD4",
+        b"\xF0\x03\x04\xAA\x10\x02\x40\xF9\xF1\x03\x04\xAA\x17\x01\x80\xD2\x31\x02\x17\x8B\xE4\x03\x11\xAA\xF0\x03\x10\xAA\x01\0\0\x14\x50\0\0\xB5\x61\0\0\xD4\x60\0\x20\xD4",
     ),
 ];
 
@@ -137,7 +139,7 @@ fn lines_are_translated(rt: HostRuntime) -> Result<(), Fail> {
         (
             b"\xBF\0\x40\x40\0\xB8\xFF\xFF\xFF\xFF\x48\x01\x07\x0F\x92\x47\x08\xC3",
             &[("thread_0", 0x401000)],
-            b"translated 1 threads, 5 instructions, 1 blocks, 4 accesses, 0 private, 2 frm, 2 fww, 0 fsc\n",
+            b"translated 1 threads, 5 instructions, 1 blocks, 4 accesses, 1 private, 1 frm, 2 fww, 0 fsc\n",
         ),
         (
             b"\x0F\x0B",
@@ -147,17 +149,17 @@ fn lines_are_translated(rt: HostRuntime) -> Result<(), Fail> {
         (
             b"\xBF\0\x40\x40\0\x48\x8B\x07\x48\x89\x07\xC3",
             &[("thread_0", 0x401000)],
-            b"translated 1 threads, 4 instructions, 1 blocks, 3 accesses, 0 private, 2 frm, 1 fww, 0 fsc\n",
+            b"translated 1 threads, 4 instructions, 1 blocks, 3 accesses, 1 private, 1 frm, 1 fww, 0 fsc\n",
         ),
         (
             STORE_BUFFERING,
             &[("thread_0", 0x401000), ("thread_1", 0x401016)],
-            b"translated 2 threads, 12 instructions, 2 blocks, 6 accesses, 0 private, 4 frm, 2 fww, 0 fsc\n",
+            b"translated 2 threads, 12 instructions, 2 blocks, 6 accesses, 2 private, 2 frm, 2 fww, 0 fsc\n",
         ),
         (
             FENCED,
             &[("thread_0", 0x401000), ("thread_1", 0x401019)],
-            b"translated 2 threads, 14 instructions, 2 blocks, 6 accesses, 0 private, 4 frm, 2 fww, 2 fsc\n",
+            b"translated 2 threads, 14 instructions, 2 blocks, 6 accesses, 2 private, 2 frm, 2 fww, 2 fsc\n",
         ),
     ];
     for (code, listed, line) in cases {
@@ -197,7 +199,7 @@ fn threads_share_an_address(rt: HostRuntime) -> Result<(), Fail> {
     assert_eq!(rt; told.status, Status::Done);
     assert_eq!(rt;
         told.taken.as_slice(),
-        b"translated 16 threads, 1 instructions, 1 blocks, 1 accesses, 0 private, 1 frm, 0 fww, 0 fsc\n".as_slice()
+        b"translated 16 threads, 1 instructions, 1 blocks, 1 accesses, 1 private, 0 frm, 0 fww, 0 fsc\n".as_slice()
     );
     Ok(())
 }
@@ -215,19 +217,19 @@ fn programs_are_translated(rt: HostRuntime) -> Result<(), Fail> {
         (
             b"\x53\xE8\x02\0\0\0\x5B\xC3\xC3",
             ONE_THREAD,
-            b"translated 1 threads, 5 instructions, 3 blocks, 5 accesses, 0 private, 3 frm, 2 fww, 0 fsc\n",
+            b"translated 1 threads, 5 instructions, 3 blocks, 5 accesses, 5 private, 0 frm, 0 fww, 0 fsc\n",
         ),
         // the same with an argument that points into the frame: lea rdi, [rsp + 8]
         (
             b"\x53\x48\x8D\x7C\x24\x08\xE8\x02\0\0\0\x5B\xC3\xC3",
             ONE_THREAD,
-            b"translated 1 threads, 6 instructions, 3 blocks, 5 accesses, 0 private, 3 frm, 2 fww, 0 fsc\n",
+            b"translated 1 threads, 6 instructions, 3 blocks, 5 accesses, 1 private, 2 frm, 2 fww, 0 fsc\n",
         ),
         // f overwrites its return address: call f; ret; f: mov qword [rsp], 5; ret
         (
             b"\xE8\x01\0\0\0\xC3\x48\xC7\x04\x24\x05\0\0\0\xC3",
             ONE_THREAD,
-            b"translated 1 threads, 4 instructions, 3 blocks, 4 accesses, 0 private, 2 frm, 2 fww, 0 fsc\n",
+            b"translated 1 threads, 4 instructions, 3 blocks, 4 accesses, 4 private, 0 frm, 0 fww, 0 fsc\n",
         ),
         // a listed call and a listed jump: call input; mov rdi, rax; jmp output
         (
@@ -237,13 +239,13 @@ fn programs_are_translated(rt: HostRuntime) -> Result<(), Fail> {
                 ("lsg_input", 0x40100D),
                 ("lsg_output", 0x40100E),
             ],
-            b"translated 1 threads, 3 instructions, 2 blocks, 2 accesses, 0 private, 1 frm, 1 fww, 0 fsc\n",
+            b"translated 1 threads, 3 instructions, 2 blocks, 2 accesses, 2 private, 0 frm, 0 fww, 0 fsc\n",
         ),
         // a loop: mov ecx, 3; again: dec rcx; jne again; ret
         (
             b"\xB9\x03\0\0\0\x48\xFF\xC9\x75\xFB\xC3",
             ONE_THREAD,
-            b"translated 1 threads, 4 instructions, 3 blocks, 1 accesses, 0 private, 1 frm, 0 fww, 0 fsc\n",
+            b"translated 1 threads, 4 instructions, 3 blocks, 1 accesses, 1 private, 0 frm, 0 fww, 0 fsc\n",
         ),
         // a loop without an end, and so no return site: jmp 401000
         (
@@ -255,19 +257,19 @@ fn programs_are_translated(rt: HostRuntime) -> Result<(), Fail> {
         (
             b"\xE8\x01\0\0\0\xC3\xE8\x01\0\0\0\xC3\xC3",
             ONE_THREAD,
-            b"translated 1 threads, 5 instructions, 5 blocks, 5 accesses, 0 private, 3 frm, 2 fww, 0 fsc\n",
+            b"translated 1 threads, 5 instructions, 5 blocks, 5 accesses, 5 private, 0 frm, 0 fww, 0 fsc\n",
         ),
         // recursion: call 401000; ret
         (
             b"\xE8\xFB\xFF\xFF\xFF\xC3",
             ONE_THREAD,
-            b"translated 1 threads, 2 instructions, 2 blocks, 2 accesses, 0 private, 1 frm, 1 fww, 0 fsc\n",
+            b"translated 1 threads, 2 instructions, 2 blocks, 2 accesses, 2 private, 0 frm, 0 fww, 0 fsc\n",
         ),
         // a tail jump: call f; ret; (not reached); f: jmp g; (not reached); g: ret
         (
             b"\xE8\x02\0\0\0\xC3\xCC\xEB\x01\xCC\xC3",
             ONE_THREAD,
-            b"translated 1 threads, 4 instructions, 4 blocks, 3 accesses, 0 private, 2 frm, 1 fww, 0 fsc\n",
+            b"translated 1 threads, 4 instructions, 4 blocks, 3 accesses, 3 private, 0 frm, 0 fww, 0 fsc\n",
         ),
         // two threads call one function, and a third begins with it
         (
@@ -277,13 +279,73 @@ fn programs_are_translated(rt: HostRuntime) -> Result<(), Fail> {
                 ("thread_1", 0x401006),
                 ("thread_2", 0x40100C),
             ],
-            b"translated 3 threads, 5 instructions, 5 blocks, 5 accesses, 0 private, 3 frm, 2 fww, 0 fsc\n",
+            b"translated 3 threads, 5 instructions, 5 blocks, 5 accesses, 5 private, 0 frm, 0 fww, 0 fsc\n",
         ),
         // fourteen prefixes: as long as an instruction may be
         (
             b"\x66\x66\x66\x66\x66\x66\x66\x66\x66\x66\x66\x66\x66\x66\x90\xC3",
             ONE_THREAD,
-            b"translated 1 threads, 2 instructions, 1 blocks, 1 accesses, 0 private, 1 frm, 0 fww, 0 fsc\n",
+            b"translated 1 threads, 2 instructions, 1 blocks, 1 accesses, 1 private, 0 frm, 0 fww, 0 fsc\n",
+        ),
+    ];
+    for (code, listed, line) in cases {
+        let told = translated(alloc, file_of(alloc, code, listed)?)?;
+        assert_eq!(rt; told.taken.as_slice(), line);
+        assert_eq!(rt; told.status, Status::Done);
+    }
+    Ok(())
+}
+
+/// A spinlock that XCHG takes, a counter behind it, and an output: what a C compiler makes of it.
+const SPINLOCK: &[u8] =
+    b"\xF3\x0F\x1E\xFA\x53\xBB\x01\0\0\0\x89\xD8\x48\x87\x05\xED\x2F\0\0\x48\x85\xC0\x74\x04\
+    \xF3\x90\xEB\xEE\x48\x8B\x1D\xE5\x2F\0\0\x48\x83\xC3\x01\x48\x89\x1D\xDA\x2F\0\0\x48\x89\xDF\
+    \xE8\x0D\0\0\0\x48\xC7\x05\xBF\x2F\0\0\0\0\0\0\x5B\xC3\xC3";
+
+#[test]
+fn locks_products_and_divisions_are_translated(rt: HostRuntime) -> Result<(), Fail> {
+    let alloc = rt.alloc();
+    let cases: [Case; 6] = [
+        // mov edi, 404000; mov eax, 1; xchg [rdi], rax; ret, in two threads
+        (
+            b"\xBF\0\x40\x40\0\xB8\x01\0\0\0\x48\x87\x07\xC3",
+            &[("thread_0", 0x401000), ("thread_1", 0x401000)],
+            b"translated 2 threads, 4 instructions, 1 blocks, 2 accesses, 1 private, 0 frm, 0 fww, 2 fsc\n",
+        ),
+        // mov edi, 404000; lock cmpxchg [rdi], rsi; ret, in two threads
+        (
+            b"\xBF\0\x40\x40\0\xF0\x48\x0F\xB1\x37\xC3",
+            &[("thread_0", 0x401000), ("thread_1", 0x401000)],
+            b"translated 2 threads, 3 instructions, 1 blocks, 2 accesses, 1 private, 0 frm, 0 fww, 2 fsc\n",
+        ),
+        (
+            SPINLOCK,
+            &[
+                ("thread_0", 0x401000),
+                ("thread_1", 0x401000),
+                ("thread_2", 0x401000),
+                ("thread_3", 0x401000),
+                ("lsg_output", 0x401043),
+            ],
+            b"translated 4 threads, 17 instructions, 5 blocks, 8 accesses, 4 private, 1 frm, 2 fww, 2 fsc\n",
+        ),
+        // imul eax, edi; test eax, eax; je; ret: the flags are defined again before one is read
+        (
+            b"\x0F\xAF\xC7\x85\xC0\x74\0\xC3",
+            ONE_THREAD,
+            b"translated 1 threads, 4 instructions, 2 blocks, 1 accesses, 1 private, 0 frm, 0 fww, 0 fsc\n",
+        ),
+        // mov edx, 80000000; mov edi, -1; idiv edi; ret
+        (
+            b"\xBA\0\0\0\x80\xBF\xFF\xFF\xFF\xFF\xF7\xFF\xC3",
+            ONE_THREAD,
+            b"translated 1 threads, 4 instructions, 1 blocks, 1 accesses, 1 private, 0 frm, 0 fww, 0 fsc\n",
+        ),
+        // mov eax, 80000000; cdq; mov edi, -1; idiv edi; ret
+        (
+            b"\xB8\0\0\0\x80\x99\xBF\xFF\xFF\xFF\xFF\xF7\xFF\xC3",
+            ONE_THREAD,
+            b"translated 1 threads, 5 instructions, 1 blocks, 1 accesses, 1 private, 0 frm, 0 fww, 0 fsc\n",
         ),
     ];
     for (code, listed, line) in cases {
@@ -297,14 +359,28 @@ fn programs_are_translated(rt: HostRuntime) -> Result<(), Fail> {
 #[test]
 fn other_files_are_refused(rt: HostRuntime) -> Result<(), Fail> {
     let alloc = rt.alloc();
-    let cases: [Case; 12] = [
+    let cases: [Case; 14] = [
         // jmp rax
-        (b"\xFF\xE0", ONE_THREAD, b"refused UnbuiltCode 401000\n"),
-        // mov rcx, rdx; mul ecx; ret
+        (b"\xFF\xE0", ONE_THREAD, b"refused Indirect 401000\n"),
+        // cmp edi, 5; ja 401032; mov edi, edi; jmp [8 * rdi + 404000], whose cells may be written
         (
-            b"\x48\x89\xD1\xF7\xE1\xC3",
+            b"\x83\xFF\x05\x77\x2D\x89\xFF\xFF\x24\xFD\0\x40\x40\0\xC3\
+            \x90\x90\x90\x90\x90\x90\x90\x90\x90\x90\x90\x90\x90\x90\x90\x90\x90\x90\
+            \x90\x90\x90\x90\x90\x90\x90\x90\x90\x90\x90\x90\x90\x90\x90\x90\x90\x90\xC3",
             ONE_THREAD,
-            b"refused UnbuiltCode 401003\n",
+            b"refused Indirect 401007\n",
+        ),
+        // div rdi: division of 128 bits by 64
+        (
+            b"\x48\xF7\xF7\xC3",
+            ONE_THREAD,
+            b"refused BadCode 401000 Unknown\n",
+        ),
+        // imul eax, edi; je, on a flag that is undefined
+        (
+            b"\x0F\xAF\xC7\x74\0\xC3",
+            ONE_THREAD,
+            b"refused UndefinedFlag 401003\n",
         ),
         (
             b"\x48\x89\xD1",
@@ -377,7 +453,7 @@ fn as_much_code_as_may_be_is_translated(rt: HostRuntime) -> Result<(), Fail> {
     let most = translated(alloc, long_file(alloc, 0xFFFF)?)?;
     assert_eq!(rt;
         most.taken.as_slice(),
-        b"translated 1 threads, 65536 instructions, 1 blocks, 1 accesses, 0 private, 1 frm, 0 fww, 0 fsc\n".as_slice()
+        b"translated 1 threads, 65536 instructions, 1 blocks, 1 accesses, 1 private, 0 frm, 0 fww, 0 fsc\n".as_slice()
     );
     let more = translated(alloc, long_file(alloc, 0x1_0000)?)?;
     assert_eq!(rt; more.taken.as_slice(), b"refused TooMuchCode\n".as_slice());
@@ -451,10 +527,11 @@ fn changed_fields_are_refused(rt: HostRuntime) -> Result<(), Fail> {
 #[test]
 fn words_of_no_command_tell_usage(rt: HostRuntime) -> Result<(), Fail> {
     let alloc = rt.alloc();
-    let cases: [&[&str]; 4] = [
+    let cases: [&[&str]; 5] = [
         &[],
         &["translate", "a"],
-        &["plan", "a"],
+        &["plan"],
+        &["plan", "a", "b"],
         &["translate", "a", "b", "c"],
     ];
     for texts in cases {

@@ -1,5 +1,5 @@
 ghost use Rattle.std.specs.Prelude.{◌≡◌, ◌≢◌, ◌++◌, codes, decimal, map, IfOk, OnOk, string_bytes};
-ghost use Rattle.lasagne.specs.Texts.{counts_text, file_fault_text, hex, kind_name, refused_line, translated_line};
+ghost use Rattle.lasagne.specs.Texts.{counts_text, file_fault_text, hex, kind_name, refused_line, summary_text, translated_line};
 
 use elf_read::{BadCodeKind, CodeFault, FileFault};
 use std::alloc::{AllocError, Global};
@@ -26,11 +26,10 @@ fn push_counts(alloc: Global, text: &mut String, counts: &[(u32, &str)]) -> Resu
     Ok(())
 }
 
-/// The line that tells of a translation.
-pub fn translated_line(alloc: Global, s: Summary) -> Result<String, AllocError>
-    ensures { IfOk result (λ text. string_bytes text ≡ translated_line s) }
+/// Writes what is counted, behind the text.
+pub fn push_summary(alloc: Global, text: &mut String, s: Summary) -> Result<(), AllocError>
+    ensures { OnOk result (string_bytes text.new ≡ string_bytes text.old ++ summary_text s) }
 {
-    let mut text = String::from_str(alloc, "translated ")?;
     let counts = [
         (s.threads, " threads, "),
         (s.instructions, " instructions, "),
@@ -41,7 +40,15 @@ pub fn translated_line(alloc: Global, s: Summary) -> Result<String, AllocError>
         (s.fww, " fww, "),
         (s.fsc, " fsc"),
     ];
-    push_counts(alloc, &mut text, &counts)?;
+    push_counts(alloc, text, &counts)
+}
+
+/// The line that tells of a translation.
+pub fn translated_line(alloc: Global, s: Summary) -> Result<String, AllocError>
+    ensures { IfOk result (λ text. string_bytes text ≡ translated_line s) }
+{
+    let mut text = String::from_str(alloc, "translated ")?;
+    push_summary(alloc, &mut text, s)?;
     text.push_str("\n")?;
     Ok(text)
 }
@@ -101,7 +108,6 @@ fn file_fault_text(alloc: Global, fault: FileFault) -> Result<String, AllocError
         FileFault::TooMuchCode => String::from_str(alloc, "TooMuchCode"),
         FileFault::BadCode(fault) => code_fault_text(alloc, fault),
         FileFault::Indirect(a) => addressed(alloc, "Indirect ", a),
-        FileFault::UnbuiltCode(a) => addressed(alloc, "UnbuiltCode ", a),
         FileFault::Overlap(a) => addressed(alloc, "Overlap ", a),
         FileFault::TableEntered(a) => addressed(alloc, "TableEntered ", a),
         FileFault::UndefinedFlag(a) => addressed(alloc, "UndefinedFlag ", a),

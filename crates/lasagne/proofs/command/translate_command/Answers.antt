@@ -1,16 +1,16 @@
 use Rattle.std.proofs.Common.{◌∙◌, refl, inl, inr}
 use Rattle.lasagne.proofs.Carried.{image_for}
-use Rattle.lasagne.proofs.Endings.{longer_refused, fault_refused, refused, of_image, rose_later, put_image, torn_image, took_line, took_part}
+use Rattle.lasagne.proofs.Endings.{longer_refused, fault_refused, translate_refused, of_image, rose_later, put_image, torn_image, took_line, took_part}
 use Rattle.lasagne.proofs.command.translate_command.Goals as goal
 
 pub returns-in-Err-TooLong : goal.returns-in-Err-TooLong
 returns-in-Err-TooLong g c =
-    refused c.refuse.result c.args.from.now c.args.to.now _ _ _
+    translate_refused c.refuse.result c.args.from.now c.args.to.now _ _ _
     (longer_refused _ c.args.from.now 67108864 _ _ refl (c.in-Err-TooLong.ensures.too_long (cc))) c.in-Err-TooLong.ensures.same c.refuse.ensures
 
 pub returns-in-Err-File : goal.returns-in-Err-File
 returns-in-Err-File g c =
-    refused c.refuse-in-Err-File.result c.args.from.now c.args.to.now _ _ c.in-Err-File.fault
+    translate_refused c.refuse-in-Err-File.result c.args.from.now c.args.to.now _ _ c.in-Err-File.fault
     (fault_refused _ c.args.from.now c.in-Ok.bytes.items c.deref.result.now c.in-Err-File.fault c.deref.ensures.value (c.in-Err-File.ensures.refused c.in-Err-File.fault (cc)) c.in-Ok.ensures.bytes)
     c.in-Ok.ensures.same c.refuse-in-Err-File.ensures
 
@@ -22,7 +22,7 @@ returns-in-Err-Failed-put g c =
     let e = c.in-Ok-translate.ensures in
     let made = c.in-Ok-translate.made in
     let input = c.deref.result.now in
-    let whole = image_for input made e.private e.carries e.follows e.jumps e.few e.summary in (
+    let whole = image_for input made e.private e.carries e.follows e.barriers e.jumps e.flags e.few e.summary in (
       rose_later _ _ _ c.in-Ok.ensures.cause.later (c.in-Err-Failed-put.ensures.cause.cause (cc)),
       of_image _ c.args.from.now (record { files = g.H.Shelf.files c.args.shelf.now; taken = g.O.Sink.taken c.args.out.now; shelf_faults = g.H.Shelf.faults c.args.shelf.now; sink_faults = g.O.Sink.faults c.args.out.now }) c.in-Ok.bytes.items input made.file c.deref.ensures.value c.in-Ok.ensures.bytes
           whole.0
@@ -38,7 +38,7 @@ returns-in-Ok-write_all g c =
     let e = c.in-Ok-translate.ensures in
     let made = c.in-Ok-translate.made in
     let input = c.deref.result.now in
-    let whole = image_for input made e.private e.carries e.follows e.jumps e.few e.summary in
+    let whole = image_for input made e.private e.carries e.follows e.barriers e.jumps e.flags e.few e.summary in
     of_image _ c.args.from.now (record { files = g.H.Shelf.files c.args.shelf.now; taken = g.O.Sink.taken c.args.out.now; shelf_faults = g.H.Shelf.faults c.args.shelf.now; sink_faults = g.O.Sink.faults c.args.out.now }) c.in-Ok.bytes.items input made.file c.deref.ensures.value c.in-Ok.ensures.bytes
     whole.0 (
       put_image _ _ _ c.args.to.now c.as_slice.result.now made.file c.in-Ok.ensures.same c.as_slice.ensures c.in-Ok-put.ensures.ok,
@@ -52,7 +52,7 @@ returns-in-Err-Failed-write_all g c =
     let e = c.in-Ok-translate.ensures in
     let made = c.in-Ok-translate.made in
     let input = c.deref.result.now in
-    let whole = image_for input made e.private e.carries e.follows e.jumps e.few e.summary in (
+    let whole = image_for input made e.private e.carries e.follows e.barriers e.jumps e.flags e.few e.summary in (
       c.in-Err-Failed-write_all.ensures.cause.cause (cc),
       of_image _ c.args.from.now (record { files = g.H.Shelf.files c.args.shelf.now; taken = g.O.Sink.taken c.args.out.now; shelf_faults = g.H.Shelf.faults c.args.shelf.now; sink_faults = g.O.Sink.faults c.args.out.now }) c.in-Ok.bytes.items input made.file c.deref.ensures.value c.in-Ok.ensures.bytes
           whole.0 (
@@ -68,7 +68,7 @@ returns g c =
     let e = c.in-Ok-translate.ensures in
     let made = c.in-Ok-translate.made in
     let input = c.deref.result.now in
-    let whole = image_for input made e.private e.carries e.follows e.jumps e.few e.summary in (
+    let whole = image_for input made e.private e.carries e.follows e.barriers e.jumps e.flags e.few e.summary in (
       c.in-Err-NoMemory-write_all.ensures.no_memory (cc),
       inr (of_image _ c.args.from.now (record { files = g.H.Shelf.files c.args.shelf.now; taken = g.O.Sink.taken c.args.out.now; shelf_faults = g.H.Shelf.faults c.args.shelf.now; sink_faults = g.O.Sink.faults c.args.out.now }) c.in-Ok.bytes.items input made.file c.deref.ensures.value c.in-Ok.ensures.bytes
           whole.0
