@@ -79,7 +79,9 @@ fn measure_searches<R: Print + Eprint + AllocGlobal + CpuClock>(
     let blocks = code.blocks.as_slice().len();
     let sites = code.sites.as_slice().len();
     let slots = private.slots.as_slice().len();
-    println!(rt; "{name}: {instructions} instructions, {blocks} blocks, {sites} sites, {slots} private")?;
+    println!(rt;
+        "{name}: {instructions} instructions, {blocks} blocks, {sites} sites, {slots} private"
+    )?;
     let flags = between.saturating_sub(before).as_millis();
     let frames = after.saturating_sub(between).as_millis();
     eprintln!(rt; "{name}: flags {flags} ms, frames {frames} ms")?;

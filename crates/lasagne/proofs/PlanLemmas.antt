@@ -1,5 +1,5 @@
 -- The plan that a translation gives is the input's.
-use Rattle.std.proofs.Common.{◌≡◌, ℕ, zero, suc, ◌+◌, Bool, List, [], ◌∷◌, ◌++◌, length, drop, slice_get, ap, subst, sym, append_assoc, arith}
+use Rattle.std.proofs.Common.{◌≡◌, ℕ, zero, suc, ◌+◌, List, [], ◌∷◌, ◌++◌, length, drop, slice_get, subst, sym, append_assoc, arith}
 use Rattle.x64_syntax.specs.declared.slots.Slot.{Slot}
 use Rattle.elf_read.specs.ElfFile.{threads_of}
 use Rattle.code_at.specs.Code.{program_in}

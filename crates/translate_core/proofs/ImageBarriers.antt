@@ -20,7 +20,7 @@ use Rattle.a64_block.specs.Barriers.{barriers_in, spelled_barriers}
 use Rattle.a64_block.specs.declared.block.ABlock.{ABlock}
 use Rattle.code_layout.specs.Barriers.{barriers_of}
 use Rattle.carry_spec.specs.declared.summary.Summary.{Summary}
-use Rattle.carry_spec.specs.Barriers.{is_load_barrier, is_store_barrier, is_full_barrier, HasBarriers, HasPlannedBarriers}
+use Rattle.carry_spec.specs.Barriers.{is_load_barrier, is_store_barrier, is_full_barrier, HasPlannedBarriers}
 use Rattle.carry_spec.specs.Plan.{AreOfEach, block_gaps}
 use Rattle.translate_core.specs.Passed.{ArePassed, gap_barriers}
 use Rattle.translate_core.proofs.Sizes.{each_planned, as_many}
@@ -115,8 +115,8 @@ module _ (program : Program) (code : Code) (is : IsCodeOf program code) (private
   image_barriers blocks words threads passed spelled summary counts =
       let here = each_block code.blocks blocks counts.blocks (as_many program code is private blocks passed) counts.are (each_planned program code is private blocks passed) in
       let counted : (p : FenceKind → Bool) (holds : Gap → Bool) → ((g : Gap) → count_by p (map barrier (fences_of g)) ≡ cond (holds g) 1 0)
-              → count_by p (spelled_barriers words) ≡ sum_by (λ ps. count_by holds (block_gaps (marked private) ps)) counts.blocks =
-          λ p holds one. ap (count_by p) (spelled ∙ here) ∙ count_blocks p holds one counts.blocks in
+      → count_by p (spelled_barriers words) ≡ sum_by (λ ps. count_by holds (block_gaps (marked private) ps)) counts.blocks =
+      λ p holds one. ap (count_by p) (spelled ∙ here) ∙ count_blocks p holds one counts.blocks in
       record {
         frm = counted is_load_barrier (λ (g : Gap). g.frm) (λ g. one_load g.frm g.fww g.fsc) ∙ sym (ap (λ (s : Summary). s.frm) counts.counted);
         fww = counted is_store_barrier (λ (g : Gap). g.fww) (λ g. one_store g.frm g.fww g.fsc) ∙ sym (ap (λ (s : Summary). s.fww) counts.counted);

@@ -1,5 +1,5 @@
 -- Private slots in their order are sorted as marks are.
-use Rattle.std.proofs.Common.{◌≡◌, ℕ, zero, suc, ◌<◌, List, [], ◌∷◌, Some, slice_get, refl, ap, arith, inl, inr}
+use Rattle.std.proofs.Common.{◌≡◌, ℕ, zero, suc, List, [], ◌∷◌, Some, slice_get, refl, ap, arith, inl, inr}
 use Rattle.std.specs.List.{AllByRecursion}
 use Rattle.x64_syntax.specs.declared.slots.Slot.{Slot}
 use Rattle.fence_place.specs.Marked.{IsSorted, kind_number}
