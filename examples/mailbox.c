@@ -1,19 +1,12 @@
 // Two threads and a mailbox. The first fills the mailbox and says so; the second waits for that, sums what it finds and answers;
 // the first waits for the answer and puts it out. examples/compile-c makes mailbox.elf of this file.
-#include <stdatomic.h>
+#include "lasagne.h"
 
 enum { SIZE = 16 };
 
 static unsigned long mailbox[SIZE];
 static unsigned long answer;
 static atomic_int filled, answered;
-
-// The listed call that makes an output. Its host takes the value; run without one, it only returns.
-void lsg_output(unsigned long value);
-__asm__(".text\n"
-        ".globl lsg_output\n"
-        ".type lsg_output, @function\n"
-        "lsg_output: ret\n");
 
 static __attribute__((noinline)) void wait_for(const atomic_int *flag) {
   while (atomic_load_explicit(flag, memory_order_acquire) == 0) {}
