@@ -9,3 +9,6 @@ pub mod BytePairs
 pub mod SlotForms
 pub mod ExternalPairs
 pub mod PairsBack
+pub mod LastFences
+pub mod Ordering
+pub mod DoorsBack

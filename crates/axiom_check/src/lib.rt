@@ -5,9 +5,12 @@
 
 mod bytes;
 mod doors;
+mod event_order;
 mod events;
 mod external;
 mod gates;
 mod lanes;
 mod lookup;
 mod order;
+
+pub use event_order::order_of;
