@@ -86,10 +86,13 @@ last_below kind items n (suc below) = let (value, before) = last_below kind item
   next value before = elim (fence_at kind items below) [
     | inl at ↦ elim (cases_lt n (accesses_before items below)) [
       | inl far ↦ (value, passed value before (λ there few. omega arith))
-      | inr few ↦ (accesses_before items below + 1, record {
+      | inr few ↦ (
+        accesses_before items below + 1,
+        record {
           there = λ some. (below, (omega arith), at, few, refl);
           most = λ p less there near. let order = mono items p below (omega arith) in omega arith;
-        })
+        },
+      )
     ]
     | inr not ↦ (value, passed value before (λ there few. not there))
   ]

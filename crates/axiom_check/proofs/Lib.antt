@@ -12,3 +12,4 @@ pub mod PairsBack
 pub mod LastFences
 pub mod Ordering
 pub mod DoorsBack
+pub mod StoreBufferingJudged

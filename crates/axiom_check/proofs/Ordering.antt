@@ -68,16 +68,16 @@ pub cycle_of : (x : Execution) (all : List Access) (R : Event → Event → Type
 cycle_of x all R indexed same (n, via, round) =
     let at : ℕ → Event = λ i. event_of (slice_get all i) in
     (at n, map at via, same_chain (Told all R) (Among x.threads R) at (λ i j told. pair_at i j told) n via n round) where
-  pair_at : (i j : ℕ) → Told all R i j → Among x.threads R (event_of (slice_get all i)) (event_of (slice_get all j))
-  pair_at i j told =
-      let first : event_of (slice_get all i) ≡ event told.first = ap event_of told.first_there in
-      let second : event_of (slice_get all j) ≡ event told.second = ap event_of told.second_there in
-      let among : Among x.threads R (event told.first) (event told.second) = record {
-        first = event_in x.threads all indexed same i told.first told.first_there;
-        second = event_in x.threads all indexed same j told.second told.second_there;
-        pair = told.pair;
-      } in
-      subst (λ (e : Event). Among x.threads R e (event_of (slice_get all j))) (sym first) (subst (λ (e : Event). Among x.threads R (event told.first) e) (sym second) among)
+      pair_at : (i j : ℕ) → Told all R i j → Among x.threads R (event_of (slice_get all i)) (event_of (slice_get all j))
+      pair_at i j told =
+          let first : event_of (slice_get all i) ≡ event told.first = ap event_of told.first_there in
+          let second : event_of (slice_get all j) ≡ event told.second = ap event_of told.second_there in
+          let among : Among x.threads R (event told.first) (event told.second) = record {
+            first = event_in x.threads all indexed same i told.first told.first_there;
+            second = event_in x.threads all indexed same j told.second told.second_there;
+            pair = told.pair;
+          } in
+          subst (λ (e : Event). Among x.threads R e (event_of (slice_get all j))) (sym first) (subst (λ (e : Event). Among x.threads R (event told.first) e) (sym second) among)
 
 -- an event and its number
 numbered_event : (x : Execution) (all : List Access) → IsIndexed x.threads → all ≡ all_accesses x.threads → (a : Event) → IsIn x.threads a
@@ -107,46 +107,46 @@ order_of_events order within x all firsts indexed same numbered numbers is ids a
       each = record { only = only; once = once; each = each };
       forward = λ a b pair. forward a b pair;
     }) where
-  only : (id : EventId) → StandsIn (map (λ v. id_at all v) numbers) id → StandsIn (access_ids x.threads) id
-  only id there =
-      let (v, stands, named) = stands_image (λ v. id_at all v) numbers id there in
-      let (a, here) = element all v (is.below v stands) in
-      let id_is = id_here all v a here in
-      let mapped = stands_map (λ (c : Access). c.id) (all_accesses x.threads) a (v, subst (λ (l : List Access). slice_get l v ≡ Some a) same here) in
-      subst (λ (e : EventId). StandsIn (access_ids x.threads) e) (sym id_is ∙ named) mapped
+      only : (id : EventId) → StandsIn (map (λ v. id_at all v) numbers) id → StandsIn (access_ids x.threads) id
+      only id there =
+          let (v, stands, named) = stands_image (λ v. id_at all v) numbers id there in
+          let (a, here) = element all v (is.below v stands) in
+          let id_is = id_here all v a here in
+          let mapped = stands_map (λ (c : Access). c.id) (all_accesses x.threads) a (v, subst (λ (l : List Access). slice_get l v ≡ Some a) same here) in
+          subst (λ (e : EventId). StandsIn (access_ids x.threads) e) (sym id_is ∙ named) mapped
 
-  each : (id : EventId) → StandsIn (access_ids x.threads) id → StandsIn (map (λ v. id_at all v) numbers) id
-  each id there =
-      let (a, stands, named) = stands_image (λ (c : Access). c.id) (all_accesses x.threads) id there in
-      let (n, at) = stands in
-      let here = subst (λ (l : List Access). slice_get l n ≡ Some a) (sym same) at in
-      let mapped = stands_map (λ v. id_at all v) numbers n (is.each n (place_below all n a here)) in
-      subst (λ (e : EventId). StandsIn (map (λ v. id_at all v) numbers) e) (id_here all n a here ∙ named) mapped
+      each : (id : EventId) → StandsIn (access_ids x.threads) id → StandsIn (map (λ v. id_at all v) numbers) id
+      each id there =
+          let (a, stands, named) = stands_image (λ (c : Access). c.id) (all_accesses x.threads) id there in
+          let (n, at) = stands in
+          let here = subst (λ (l : List Access). slice_get l n ≡ Some a) (sym same) at in
+          let mapped = stands_map (λ v. id_at all v) numbers n (is.each n (place_below all n a here)) in
+          subst (λ (e : EventId). StandsIn (map (λ v. id_at all v) numbers) e) (id_here all n a here ∙ named) mapped
 
-  once : IsDistinct (map (λ v. id_at all v) numbers)
-  once i j id first second =
-      let (v, at_v, named_v) = image_at (λ v. id_at all v) numbers i id first in
-      let (w, at_w, named_w) = image_at (λ v. id_at all v) numbers j id second in
-      let (a, here) = element all v (is.below v (i, at_v)) in
-      let (b, there) = element all w (is.below w (j, at_w)) in
-      let number = same_number all firsts numbered id v w a b (record { here = here; named = sym (id_here all v a here) ∙ named_v }) (record { here = there; named = sym (id_here all w b there) ∙ named_w }) in
-      is.once i j v at_v (subst (λ (n : ℕ). slice_get numbers j ≡ Some n) (sym number) at_w)
+      once : IsDistinct (map (λ v. id_at all v) numbers)
+      once i j id first second =
+          let (v, at_v, named_v) = image_at (λ v. id_at all v) numbers i id first in
+          let (w, at_w, named_w) = image_at (λ v. id_at all v) numbers j id second in
+          let (a, here) = element all v (is.below v (i, at_v)) in
+          let (b, there) = element all w (is.below w (j, at_w)) in
+          let number = same_number all firsts numbered id v w a b (record { here = here; named = sym (id_here all v a here) ∙ named_v }) (record { here = there; named = sym (id_here all w b there) ∙ named_w }) in
+          is.once i j v at_v (subst (λ (n : ℕ). slice_get numbers j ≡ Some n) (sym number) at_w)
 
-  forward : (a b : Event) → IsExternalPair order within x a b → Earlier (map (λ v. id_at all v) numbers) a.id b.id
-  forward a b pair =
-      let (m, one, here, first) = numbered_event x all indexed same a pair.first in
-      let (n, two, there, second) = numbered_event x all indexed same b pair.second in
-      let before = is.forward m n (told_of x all (SomeKind (ExternalPair order within x)) a b m n one two here there first second pair.pair) in
-      let id_a = id_here all m one here ∙ ap {B = EventId} (λ (e : Event). e.id) first in
-      let id_b = id_here all n two there ∙ ap {B = EventId} (λ (e : Event). e.id) second in
-      let At : ℕ → EventId → Type 0 = λ i e. slice_get (map (λ v. id_at all v) numbers) i ≡ Some e in
-      record {
-        i = before.i;
-        j = before.j;
-        order = before.order;
-        first = subst (At before.i) id_a (at_image (λ v. id_at all v) numbers before.i m before.first);
-        second = subst (At before.j) id_b (at_image (λ v. id_at all v) numbers before.j n before.second);
-      }
+      forward : (a b : Event) → IsExternalPair order within x a b → Earlier (map (λ v. id_at all v) numbers) a.id b.id
+      forward a b pair =
+          let (m, one, here, first) = numbered_event x all indexed same a pair.first in
+          let (n, two, there, second) = numbered_event x all indexed same b pair.second in
+          let before = is.forward m n (told_of x all (SomeKind (ExternalPair order within x)) a b m n one two here there first second pair.pair) in
+          let id_a = id_here all m one here ∙ ap {B = EventId} (λ (e : Event). e.id) first in
+          let id_b = id_here all n two there ∙ ap {B = EventId} (λ (e : Event). e.id) second in
+          let At : ℕ → EventId → Type 0 = λ i e. slice_get (map (λ v. id_at all v) numbers) i ≡ Some e in
+          record {
+            i = before.i;
+            j = before.j;
+            order = before.order;
+            first = subst (At before.i) id_a (at_image (λ v. id_at all v) numbers before.i m before.first);
+            second = subst (At before.j) id_b (at_image (λ v. id_at all v) numbers before.j n before.second);
+          }
 
 -- along pairs that go forward, an event stands later
 along : (R : Event → Event → Type 0) (ids : List EventId) → IsDistinct ids → ((a b : Event) → R a b → Earlier ids a.id b.id) → (a : Event) (via : List Event) (b : Event)
