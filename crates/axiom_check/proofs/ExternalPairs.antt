@@ -83,7 +83,7 @@ opens (opening.Fence kind) items m n place at reaches =
     (between, omega arith)
 opens opening.Pair items m n place at reaches = absurd at
 
-place_small : (o : Opening) (items : List Item) (n place : ℕ) → IsAt o items n place → place ≤ n + 1
+pub place_small : (o : Opening) (items : List Item) (n place : ℕ) → IsAt o items n place → place ≤ n + 1
 place_small opening.Always items n place at = omega arith
 place_small (opening.Fence kind) items n place at = elim (cases_lt 0 place) [
   | inl some ↦ (let (p, less, fence, few, is) = at.there some in omega arith)
@@ -118,7 +118,7 @@ gates_pair x all order doors within law own s u one two same same_k reaches =
     door_pair order doors within x law own one.k one.door one.listed (event one.access) (event two.access) same
     (record { order = less; from = one.side; to = both.0; opening = opened })
 
-index_small : (x : Execution) (all : List Access) (firsts : List ℕ) → IsJudgeable x → all ≡ all_accesses x.threads → AreNumbered all firsts → (n : ℕ) (a : Access) → slice_get all n ≡ Some a
+pub index_small : (x : Execution) (all : List Access) (firsts : List ℕ) → IsJudgeable x → all ≡ all_accesses x.threads → AreNumbered all firsts → (n : ℕ) (a : Access) → slice_get all n ≡ Some a
     → a.id.index < 4096
 index_small x all firsts judged same numbered n a here =
     let (first, begins, is) = numbered.told n a here in

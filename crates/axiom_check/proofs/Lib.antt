@@ -9,3 +9,7 @@ pub mod BytePairs
 pub mod SlotForms
 pub mod ExternalPairs
 pub mod PairsBack
+pub mod LastFences
+pub mod Ordering
+pub mod DoorsBack
+pub mod StoreBufferingJudged

@@ -22,12 +22,12 @@ use Rattle.axiom_check.proofs.BytePairs.{overlap_bytes, from_before}
 use Rattle.axiom_check.proofs.ExternalPairs.{IsLaned}
 
 -- two keys at one byte and number are of one lane, ordered as their places
-same_keys : (byte other tag place at : ℕ) → byte ≡ other → place < 4294967296 → at < 4294967296 → place ≤ at
+pub same_keys : (byte other tag place at : ℕ) → byte ≡ other → place < 4294967296 → at < 4294967296 → place ≤ at
     → (lane_of (key byte tag place) ≡ lane_of (key other tag at)) × (key byte tag place ≤ key other tag at)
 same_keys byte other tag place at same fits at_fits order = (omega arith, omega arith)
 
 -- an access of the threads, by the id that it has
-own_place : (x : Execution) (all : List Access) (firsts : List ℕ) (order : Order) (doors : List Door) (within : Bool) (sources targets : List Slot) (direct : List Edge)
+pub own_place : (x : Execution) (all : List Access) (firsts : List ℕ) (order : Order) (doors : List Door) (within : Bool) (sources targets : List Slot) (direct : List Edge)
     → IsLaned x all firsts order doors within sources targets direct → (n : ℕ) (a : Access) → slice_get all n ≡ Some a → slice_get (accesses (items_of x.threads a.id.thread)) a.id.index ≡ Some a
 own_place x all firsts order doors within sources targets direct known n a here =
     let (t, m, at) = from_all x.threads a (n, subst (λ (l : List Access). slice_get l n ≡ Some a) known.same here) in

@@ -4,3 +4,4 @@ pub mod Numbers
 pub mod Bytes
 pub mod Gates
 pub mod External
+pub mod Ordered

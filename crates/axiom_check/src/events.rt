@@ -1,9 +1,10 @@
-ghost use Rattle.std.specs.Prelude.{◌≡◌, ◌++◌, ◌+◌, ◌<◌, ◌^◌, ℕ, IfOk, OnOk, IfSome, IfNone, Some, slice_get, vec_len};
+ghost use Rattle.std.specs.Prelude.{◌≡◌, ◌++◌, ◌+◌, ◌<◌, ◌^◌, ℕ, IfOk, OnOk, IfSome, IfNone, Some, slice_get, length, vec_len};
 ghost use Rattle.ev_graph.specs.declared.events.Access.{Access as AnyAccess};
 ghost use Rattle.ev_graph.specs.Events.{accesses};
 ghost use Rattle.ev_graph.specs.WellFormed.{all_accesses, IsIndexed};
 ghost use Rattle.axiom_check.specs.Numbers.{firsts_from, AreNumbered, IsEdgeOf, IsNumbered};
 ghost use Rattle.axiom_check.specs.Gains.{Gains};
+ghost use Rattle.axiom_check.specs.Ordered.{id_at};
 
 use ev_graph::{Access, EventId, Item, NoMemory, ThreadRun};
 use std::alloc::Global;
@@ -52,6 +53,26 @@ impl Events {
             return Err(NoMemory);
         }
         Ok(Events { accesses, firsts })
+    }
+
+    /// How many accesses there are.
+    pub fn count(&self) -> u32
+        ensures { result ≡ length self.now.accesses.items }
+    {
+        self.accesses.len() as u32
+    }
+
+    /// The id of the access with this number.
+    pub fn id(&self, number: u32) -> EventId
+        ensures { result ≡ id_at self.now.accesses.items number }
+    {
+        match self.accesses.get(number as usize) {
+            Some(access) => access.id,
+            None => EventId {
+                thread: 0,
+                index: 0,
+            },
+        }
     }
 
     /// The number that the access with this id would have.

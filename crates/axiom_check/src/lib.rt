@@ -1,13 +1,19 @@
-//! The pairs of the axiom External of an execution, as a graph near-linear in its events, and an order along them.
-//! For now its parts: others are to rest on `external`, the lanes of an execution, and on `Lanes::order`.
+//! An order of an execution's accesses in which every pair of the axiom External goes forward.
+//! Others rest on `order_of` by its clauses `order` and `cyclic`. Inside, the pairs are lanes, a graph near-linear in the events.
 //! Source: herding cats (Alglave, Maranget, Tautschnig, TOPLAS 2014), by frontiers of threads and bytes.
 #![tactic(auto)]
 
 mod bytes;
 mod doors;
+mod event_order;
 mod events;
 mod external;
 mod gates;
 mod lanes;
 mod lookup;
 mod order;
+
+pub use event_order::order_of;
+
+#[cfg(test)]
+mod tests;
