@@ -1,5 +1,5 @@
 -- Each pair of the axiom External of an execution is one of its lanes: what the doors admit, and reads from other threads; and all pairs.
-use Rattle.std.proofs.Common.{◌≡◌, ◌≢◌, ◌<◌, ◌≤◌, ◌+◌, ℕ, Bool, List, [], length, Option, Some, MatchOption, ◌⊎◌, inl, inr, refl, sym, ap, subst, ◌∙◌, arith}
+use Rattle.std.proofs.Common.{◌≡◌, ◌<◌, ◌≤◌, ◌+◌, ℕ, Bool, List, [], length, Option, Some, MatchOption, inl, inr, refl, sym, ap, subst, ◌∙◌, arith}
 use Rattle.std.specs.List.{slice_get}
 use Rattle.ev_graph.specs.declared.events.Access.{Access}
 use Rattle.ev_graph.specs.declared.events.EventId.{EventId}
@@ -7,7 +7,7 @@ use Rattle.ev_graph.specs.declared.events.Item.{Item}
 use Rattle.ev_graph.specs.declared.execution.Execution.{Execution}
 use Rattle.ev_graph.specs.declared.execution.Source.TheVariants.{From}
 use Rattle.ev_graph.specs.declared.execution.ThreadRun.{ThreadRun}
-use Rattle.ev_graph.specs.Events.{Event, accesses, event, items_of, LockedPairAt}
+use Rattle.ev_graph.specs.Events.{accesses, event, items_of, LockedPairAt}
 use Rattle.ev_graph.specs.Pairs.{External, Rf}
 use Rattle.ev_graph.specs.Places.{StandsIn}
 use Rattle.ev_graph.specs.WellFormed.{all_accesses}

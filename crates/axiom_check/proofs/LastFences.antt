@@ -1,5 +1,5 @@
 -- The last fence before an access can be told, and so the place of the access at a door.
-use Rattle.std.proofs.Common.{◌≡◌, ◌<◌, ◌≤◌, ◌+◌, ℕ, zero, suc, List, [], ◌∷◌, length, Option, Some, None, ◌⊎◌, inl, inr, refl, sym, ap, subst, ◌∙◌, arith}
+use Rattle.std.proofs.Common.{◌≡◌, ◌<◌, ◌≤◌, ◌+◌, ℕ, zero, suc, List, length, Option, Some, None, ◌⊎◌, inl, inr, refl, sym, ap, subst, ◌∙◌, arith}
 use Rattle.std.specs.List.{slice_get}
 use Rattle.std.proofs.lemmas.Bool.{cases_lt}
 use Rattle.ev_graph.specs.declared.events.FenceItem.{FenceItem}
@@ -12,7 +12,7 @@ use Rattle.ev_graph.proofs.Numbers.{mono}
 use Rattle.order_models.specs.declared.doors.Opening.{Opening}
 use Rattle.order_models.specs.declared.doors.Opening.TheVariants as opening
 use Rattle.order_models.specs.Doors.{Opens}
-use Rattle.axiom_check.specs.Gates.{IsAt, IsFenceAt, IsLast, IsLastBelow, IsWide}
+use Rattle.axiom_check.specs.Gates.{IsAt, IsFenceAt, IsLastBelow, IsWide}
 use Rattle.axiom_check.proofs.GatesLemmas.{fence_between}
 
 -- the kinds of fences by numbers

@@ -1,5 +1,5 @@
 -- From an order of numbers to one of events, and from a cycle of numbers to one of events.
-use Rattle.std.proofs.Common.{◌≡◌, ◌<◌, ◌↔◌, ℕ, zero, suc, Bool, false, List, [], ◌∷◌, length, map, Option, Some, None, MatchOption, IfSome, IsNone, refl, sym, ap, subst, ◌∙◌, arith}
+use Rattle.std.proofs.Common.{◌≡◌, ◌↔◌, ℕ, zero, suc, Bool, false, List, [], ◌∷◌, length, map, Option, Some, None, MatchOption, refl, sym, ap, subst, ◌∙◌, arith}
 use Rattle.std.specs.List.{slice_get}
 use Rattle.ev_graph.specs.declared.events.Access.{Access}
 use Rattle.ev_graph.specs.declared.events.AccessKind.TheVariants.{Read}
@@ -7,8 +7,8 @@ use Rattle.ev_graph.specs.declared.events.EventId.{EventId}
 use Rattle.ev_graph.specs.declared.execution.Execution.{Execution}
 use Rattle.ev_graph.specs.declared.execution.ThreadRun.{ThreadRun}
 use Rattle.ev_graph.specs.Cycle.{Chain, Among}
-use Rattle.ev_graph.specs.Events.{Event, accesses, event, items_of, IsAccessOf, IsIn}
-use Rattle.ev_graph.specs.Places.{Earlier, HasEachOnce, IsDistinct, StandsIn}
+use Rattle.ev_graph.specs.Events.{Event, event, IsIn}
+use Rattle.ev_graph.specs.Places.{Earlier, IsDistinct, StandsIn}
 use Rattle.ev_graph.specs.WellFormed.{all_accesses, IsIndexed}
 use Rattle.ev_graph.proofs.EventLemmas.{access_of, access_in}
 use Rattle.ev_graph.proofs.Ids.{from_all}
@@ -16,7 +16,7 @@ use Rattle.ev_graph.proofs.Members.{stands_map, stands_image}
 use Rattle.order_models.specs.Consistent.{ExternalPair, SomeKind}
 use Rattle.order_models.specs.Orders.{Order}
 use Rattle.axiom_check.specs.Lanes.{HasRound, IsOrderOf}
-use Rattle.axiom_check.specs.Numbers.{AreNumbered, IsNumbered, Told}
+use Rattle.axiom_check.specs.Numbers.{AreNumbered, Told}
 use Rattle.axiom_check.specs.Ordered.{IsEventOrder, IsExternalPair, HasExternalCycle, access_ids, id_at, id_of}
 use Rattle.axiom_check.proofs.LanesLemmas.{element, place_below}
 use Rattle.axiom_check.proofs.NumberLemmas.{same_number}

@@ -8,10 +8,9 @@ use Rattle.ev_graph.specs.declared.events.FenceKind.{FenceKind}
 use Rattle.ev_graph.specs.declared.execution.ReadFrom.{ReadFrom}
 use Rattle.ev_graph.specs.declared.execution.Source.{Source}
 use Rattle.ev_graph.specs.declared.execution.Source.TheVariants.{Start, From}
-use Rattle.ev_graph.specs.Events.{IsAccessOf}
 use Rattle.ev_graph.specs.Faults.{MayGive}
 use Rattle.ev_graph.specs.Places.{StandsIn, IsDistinct, HasEachOnce}
-use Rattle.ev_graph.specs.StoreBuffering.{store_buffering, sb_read, sb_write}
+use Rattle.ev_graph.specs.StoreBuffering.{store_buffering}
 use Rattle.ev_graph.specs.WellFormed.{all_accesses, write_ids, EachAccess}
 use Rattle.ev_graph.proofs.Members.{distinct_cons}
 use Rattle.ev_graph.proofs.StoreBufferingLemmas.{sb_access, sb_from, sb_shaped}

@@ -1,11 +1,11 @@
 -- An order of an execution's accesses along the pairs of the axiom External.
-use Rattle.std.specs.Prelude.{◌≡◌, ℕ, Bool, List, map, Option, Some, None, slice_get}
+use Rattle.std.specs.Prelude.{ℕ, Bool, List, map, Option, Some, None, slice_get}
 use Rattle.ev_graph.specs.declared.events.Access.{Access}
 use Rattle.ev_graph.specs.declared.events.EventId.{EventId}
 use Rattle.ev_graph.specs.declared.execution.Execution.{Execution}
 use Rattle.ev_graph.specs.declared.execution.ThreadRun.{ThreadRun}
 use Rattle.ev_graph.specs.Cycle.{Chain, Among}
-use Rattle.ev_graph.specs.Events.{Event, IsIn}
+use Rattle.ev_graph.specs.Events.{Event}
 use Rattle.ev_graph.specs.Places.{Earlier, HasEachOnce}
 use Rattle.ev_graph.specs.WellFormed.{all_accesses}
 use Rattle.order_models.specs.Consistent.{ExternalPair, SomeKind}
