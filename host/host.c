@@ -18,6 +18,7 @@
 // What it does not keep: an access of the image to the host's own memory is not stopped; and where a page of the system holds parts
 // of several segments, it has the flags of all of them.
 #define _GNU_SOURCE
+#include "enter.h"
 #include <elf.h>
 #include <inttypes.h>
 #include <pthread.h>
@@ -34,7 +35,6 @@
 
 enum {
   MOST_THREADS = 16,
-  REGISTERS = 20,                 // X0 to X15 and X19 to X22
   RSP = 4,
   RDI = 7,
   STACK_SIZE = 1 << 20,
@@ -191,23 +191,6 @@ static void load(const char *name) {
 }
 
 // ---- threads
-
-// X0 to X15 and X19 to X22 get their values, and control goes to the code
-void enter(const uint64_t *registers, uint64_t code);
-__asm__("enter:\n"
-        "mov x30, x1\n"
-        "mov x29, x0\n"
-        "ldp x21, x22, [x29, #144]\n"
-        "ldp x19, x20, [x29, #128]\n"
-        "ldp x14, x15, [x29, #112]\n"
-        "ldp x12, x13, [x29, #96]\n"
-        "ldp x10, x11, [x29, #80]\n"
-        "ldp x8, x9, [x29, #64]\n"
-        "ldp x6, x7, [x29, #48]\n"
-        "ldp x4, x5, [x29, #32]\n"
-        "ldp x2, x3, [x29, #16]\n"
-        "ldp x0, x1, [x29]\n"
-        "br x30\n");
 
 static _Noreturn void end_thread(const char *end, uint64_t place) {
   current->place = place;

@@ -6,6 +6,7 @@
 // has and these words, X0 to X15, X19 to X22 and the first CELLS cells of 8 bytes of memory at WINDOW; the others are 0. The code
 // is put at CODE. For each case a line is printed: the number of the break at which the code stopped, or "fault" where it touched
 // memory that is not there or ran for LONGEST seconds, and the same registers and cells.
+#include "../host/enter.h"
 #include <inttypes.h>
 #include <setjmp.h>
 #include <signal.h>
@@ -16,24 +17,7 @@
 #include <ucontext.h>
 #include <unistd.h>
 
-enum { REGISTERS = 20, CODE_SIZE = 0x80000, WINDOW_SIZE = 0x1000, LONGEST = 10 };
-
-// X0 to X15 and X19 to X22 get their values, and control goes to the code
-void enter(const uint64_t *registers, const void *code);
-__asm__("enter:\n"
-        "mov x30, x1\n"
-        "mov x29, x0\n"
-        "ldp x21, x22, [x29, #144]\n"
-        "ldp x19, x20, [x29, #128]\n"
-        "ldp x14, x15, [x29, #112]\n"
-        "ldp x12, x13, [x29, #96]\n"
-        "ldp x10, x11, [x29, #80]\n"
-        "ldp x8, x9, [x29, #64]\n"
-        "ldp x6, x7, [x29, #48]\n"
-        "ldp x4, x5, [x29, #32]\n"
-        "ldp x2, x3, [x29, #16]\n"
-        "ldp x0, x1, [x29]\n"
-        "br x30\n");
+enum { CODE_SIZE = 0x80000, WINDOW_SIZE = 0x1000, LONGEST = 10 };
 
 static sigjmp_buf stopped;
 static uint64_t registers[REGISTERS];
@@ -84,7 +68,7 @@ int main(int count, char **words) {
     __builtin___clear_cache((char *)code, (char *)(code + size));
     if (sigsetjmp(stopped, 1) == 0) {
       alarm(LONGEST);
-      enter(registers, code + first);
+      enter(registers, (uint64_t)(code + first));
     }
     alarm(0);
     if (stop < 0) printf("fault");
