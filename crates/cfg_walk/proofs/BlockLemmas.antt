@@ -83,7 +83,7 @@ leader_reached program a (at-led p is at) = at-next p is.reached is.stands (led_
 comes : (program : Program) (a : ℕ) → IsReached program a
     → IsLeader program a ⊎ ((p : Placed) × IsPlaced program p × (ends_block p.instr ≡ false) × (a ≡ end_of p))
 comes program a (reached-entry at) = inl (at-entry at)
-comes program a (reached-table from at) = absurd (let none = at.1 in cc)
+comes program a (reached-table from at) = inl (at-table from at)
 comes program b (at-next {a = a} p from stands at) =
     let placed : IsPlaced program p = record {
       reached = subst (IsReached program) (sym stands.here) from;

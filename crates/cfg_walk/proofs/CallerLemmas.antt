@@ -11,18 +11,23 @@ use Rattle.elf_read.specs.declared.elf.Elf.{Elf}
 use Rattle.elf_read.specs.Elf.{IsSegment, parts_of}
 use Rattle.elf_read.specs.ElfFile.{segments_of, threads_of, address_of, input_name, output_name}
 use Rattle.code_at.specs.Code.{Program, program_of, program_in}
+use Rattle.jump_table.specs.declared.entries.Table.{Table}
+use Rattle.jump_table.specs.Pattern.{Begins}
 use Rattle.cfg_walk.specs.declared.code.Block.{Block}
 use Rattle.cfg_walk.specs.declared.code.Code.{Code}
 use Rattle.cfg_walk.specs.Blocks.{AreOf, BeginAt, IsSite}
 use Rattle.cfg_walk.specs.Code.{IsCodeOf, IsFileCode}
 use Rattle.cfg_walk.specs.Machine.{FindsCode}
+use Rattle.cfg_walk.specs.Reach.{IsReached}
 use Rattle.cfg_walk.specs.Running.{IsBegun, arriving}
 use Rattle.cfg_walk.proofs.BlockRuns.{stretch_begins}
 use Rattle.cfg_walk.proofs.Found as found
 use Rattle.cfg_walk.proofs.Instructions.{block_stretch}
-use Rattle.cfg_walk.proofs.Whole.{code_begins}
+use Rattle.cfg_walk.proofs.Whole.{code_begins, known_code as code_is_known}
 -- an instruction is placed at each reached address, and a block begins wherever one may
 pub use Rattle.cfg_walk.proofs.Whole.{whole, known_code, leader_begins}
+-- more reached addresses than the limit are too much code
+pub use Rattle.cfg_walk.proofs.Weighing.{many_reached}
 -- each block has its instructions, in one list
 pub use Rattle.cfg_walk.proofs.Instructions.{have_instructions, block_listed, one_of_block}
 -- a thread that comes to a block runs it, and leaves to a block in a state with that block's address
@@ -46,6 +51,10 @@ file_code bytes elf code same is = subst (λ (program : Program). IsCodeOf progr
 -- a thread finds in the code of a program what the program has
 pub finds_code : (program : Program) (code : Code) → IsCodeOf program code → FindsCode program code
 finds_code = found.threads_find
+
+-- no jump through a table is placed, so no table begins at a reached address
+pub no_table : (program : Program) (code : Code) → IsCodeOf program code → (a : ℕ) (table : Table) → IsReached program a → Begins program a table → ⊥
+no_table program code is = (code_is_known program code is).no_table
 
 -- a block begins where a thread is started
 pub entries_begin : (program : Program) (code : Code) → IsCodeOf program code → (a : ℕ) → StandsIn program.entries a → IsBegun code a

@@ -14,13 +14,13 @@ use Rattle.cfg_walk.specs.Known.{IsKnown}
 use Rattle.cfg_walk.specs.Ends.{EndLow, led_by, called_by, returned_by}
 use Rattle.cfg_walk.proofs.Sets.{contains, stands}
 
-in_left : (xs ys : List ℕ) (a : ℕ) → StandsIn xs a → StandsIn (xs ++ ys) a
+pub in_left : (xs ys : List ℕ) (a : ℕ) → StandsIn xs a → StandsIn (xs ++ ys) a
 in_left xs ys a at = stands (xs ++ ys) a (Contains-append_left xs ys a (contains xs a at))
 
-in_right : (xs ys : List ℕ) (a : ℕ) → StandsIn ys a → StandsIn (xs ++ ys) a
+pub in_right : (xs ys : List ℕ) (a : ℕ) → StandsIn ys a → StandsIn (xs ++ ys) a
 in_right xs ys a at = stands (xs ++ ys) a (Contains-append_right xs ys a (contains ys a at))
 
-in_either : (xs ys : List ℕ) (a : ℕ) → StandsIn (xs ++ ys) a → StandsIn xs a ⊎ StandsIn ys a
+pub in_either : (xs ys : List ℕ) (a : ℕ) → StandsIn (xs ++ ys) a → StandsIn xs a ⊎ StandsIn ys a
 in_either xs ys a at = elim (Contains-append_cases xs ys a (contains (xs ++ ys) a at)) [
   | inl left ↦ inl (stands xs a left)
   | inr right ↦ inr (stands ys a right)
@@ -54,7 +54,7 @@ leader_is program placed known a = (from, to)
 
     to : IsLeader program a → StandsIn (program.entries ++ flat_map led_by placed) a
     to (at-entry at) = in_left program.entries (flat_map led_by placed) a at
-    to (at-table reached at) = absurd (let none = at.1 in cc)
+    to (at-table reached at) = absurd (known.no_table _ at.table reached at.begins)
     to (at-led p is at) =
         let place = (known.instructions.exact p).1 is in
         in_right program.entries (flat_map led_by placed) a

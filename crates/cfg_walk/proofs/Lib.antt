@@ -1,4 +1,6 @@
 pub mod Ways
+pub mod Tables
+pub mod Weighing
 pub mod Searches
 pub mod Sorting
 pub mod Scans

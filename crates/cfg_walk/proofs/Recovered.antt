@@ -3,7 +3,7 @@ use Rattle.std.proofs.Common.{List, get_or, arith}
 use Rattle.std.specs.List.{AllByRecursion}
 use Rattle.std.proofs.lemmas.Option.{slice_get-get_or}
 use Rattle.x64_syntax.specs.declared.placed.Placed.{Placed}
-use Rattle.elf_read.specs.declared.fault.FileFault.TheVariants.{Overlap}
+use Rattle.elf_read.specs.declared.fault.FileFault.TheVariants.{Indirect, Overlap}
 use Rattle.elf_read.specs.FirstFault.{Clear}
 use Rattle.elf_read.specs.Elf.{IsSegment}
 use Rattle.code_at.specs.Code.{Program}
@@ -13,6 +13,7 @@ use Rattle.cfg_walk.specs.Ends.{EndLow}
 use Rattle.cfg_walk.specs.Faults.{Holds}
 use Rattle.cfg_walk.specs.Known.{IsKnown}
 use Rattle.cfg_walk.specs.Searching.{AreFound}
+use Rattle.cfg_walk.proofs.Tables.{jump_indirect}
 
 -- instructions without a fault are known
 pub known : (program : Program) (found placed : List Placed) → AreFound program found → AreInstructions program placed → Clear (Holds program) 15 18 → IsKnown program placed
@@ -20,6 +21,7 @@ known program found placed are instructions clear = record {
   instructions = instructions;
   whole = are.whole;
   apart = λ a is. clear (Overlap a) (omega arith) (omega arith) is;
+  no_table = λ a table reached begins. clear (Indirect table.jump) (omega arith) (omega arith) (jump_indirect program a table reached begins);
 }
 
 -- the instructions end low, since their segments do

@@ -19,12 +19,18 @@ use Rattle.ev_graph.proofs.PlaceLemmas.{get-append, get-push, push_cases}
 use Rattle.std.proofs.lemmas.List.{take_more, map-append, take_all, length-map}
 use Rattle.std.proofs.lemmas.List.Sums.{sum_by-cons}
 use Rattle.std.proofs.lemmas.Option.{slice_get-get_or}
-use Rattle.cfg_walk.specs.Reach.{IsReached, at-entry, at-next, at-table, IsPlaced, successors}
-use Rattle.cfg_walk.specs.Faults.{IsTooMuch, IsBadCode, Holds, weight_at, code_limit}
-use Rattle.cfg_walk.specs.Searching.{IsFound, IsMissing, IsSearching, Tells, AreFound, lesser_of, address_of}
+use Rattle.jump_table.specs.declared.entries.Table.{Table}
+use Rattle.jump_table.specs.Pattern.{Begins, IsToldTable}
+use Rattle.jump_table.proofs.CallerLemmas.{one_table}
+use Rattle.cfg_walk.specs.Reach.{IsReached, at-entry, at-next, at-table, IsPlaced, HasEntry, successors}
+use Rattle.cfg_walk.specs.Faults.{IsTooMuch, IsBadCode, Holds, Counted, weight, weight_with, code_limit}
+use Rattle.cfg_walk.specs.Searching.{IsFound, IsMissing, IsSearching, Tells, AreFound, AreWeighed, Weighs, lesser_of, address_of, told_entries}
+use Rattle.cfg_walk.proofs.Gathered.{in_either, in_left, in_right}
+use Rattle.cfg_walk.proofs.Tables.{first_stands, told_entry, entry_told}
+use Rattle.cfg_walk.proofs.Weighing.{weigh_one, none_weighed, at_least_one, counted_within, over_limit, stands_taken, distinct_taken}
 
 -- the search begins where the threads do
-pub begins : (program : Program) (nodes : List ℕ) → Adds [] program.entries nodes → IsSearching program nodes 0 [] None
+pub begins : (program : Program) (nodes : List ℕ) → Adds [] program.entries nodes → IsSearching program nodes 0 0 [] None
 begins program nodes adds = record {
   reached = λ a at. elim (adds.only a at) [
     | inl nowhere ↦ absurd (let nothing = nowhere.1 in cc)
@@ -36,6 +42,7 @@ begins program nodes adds = record {
   along = λ e. refl;
   worst = tt;
   within = omega arith;
+  weighed = none_weighed program;
   few = omega arith;
 }
 
@@ -47,6 +54,7 @@ found_more program nodes now placed q more a adds found = record {
   stands = found.stands;
   listed = (found.listed.0, get-append placed (q ∷ []) found.listed.0 found.p found.listed.1);
   leads = λ b at. let before = found.leads b at in (before.0, adds.kept before.0 b before.1);
+  enters = λ b at. let before = found.enters b at in (before.0, adds.kept before.0 b before.1);
 }
 
 some_same : {A : Type 0} {x y : A} → Some x ≡ Some y → x ≡ y
@@ -62,23 +70,31 @@ taken_more xs i a at =
     take_more xs i 0 within ∙ ap (λ (x : ℕ). take i xs ++ x ∷ []) last
 
 -- the instruction at the next node is told
-pub noted : (program : Program) (nodes now : List ℕ) (place : ℕ) (placed : List Placed) (bad : Option CodeFault) (p : Placed) (a : ℕ)
-    → slice_get nodes place ≡ Some a → StandsAt program a p → Adds nodes (successors p) now → Tells program nodes place placed bad now (placed ++ p ∷ []) bad
-noted program nodes now place placed bad p a at stands adds s once less few = record {
+pub noted : (program : Program) (table : Option Table) (nodes now : List ℕ) (place : ℕ) (placed : List Placed) (bad : Option CodeFault) (p : Placed) (a : ℕ)
+    → slice_get nodes place ≡ Some a → StandsAt program a p → IsToldTable program a table → Adds nodes (told_entries program table ++ successors p) now
+    → Tells program table nodes placed bad now (placed ++ p ∷ []) bad place
+noted program table nodes now place placed bad p a at stands told adds total s once less few = record {
   reached = λ b in_now. elim (adds.only b in_now) [
     | inl before ↦ s.reached b before
-    | inr next ↦ at-next p here_reached stands next
+    | inr next ↦ elim (in_either (told_entries program table) (successors p) b next) [
+      | inl entry ↦ at-table here_reached (entry_told program a table told b entry)
+      | inr after ↦ at-next p here_reached stands after
+    ]
   ];
   started = λ b is. let before = s.started b is in (before.0, adds.kept before.0 b before.1);
   told = tells;
   only = λ q is. by_cases q is (push_cases placed p is.0 q is.1);
   along = λ e. map-append address_of placed (p ∷ []) ∙ ap (λ (xs : List ℕ). xs ++ p.address ∷ []) (s.along e)
-      ∙ ap (λ (x : ℕ). take place nodes ++ x ∷ []) stands.here ∙ sym (taken_more nodes place a at) ∙ sym (same_front (place + 1) nodes now adds.kept (omega (arith, less)));
+      ∙ ap (λ (x : ℕ). take place nodes ++ x ∷ []) stands.here ∙ sym front;
   worst = s.worst;
   within = (let there = slice_get_within now place a (adds.kept place a at) in omega (arith, there));
-  few = omega (arith, few);
+  weighed = subst (λ (xs : List ℕ). AreWeighed program xs (total + weight_with table)) (sym front) (weigh_one program nodes place a table total at once told s.weighed);
+  few = few;
 }
   where
+    front : take (place + 1) now ≡ take place nodes ++ a ∷ []
+    front = same_front (place + 1) nodes now adds.kept (omega (arith, less)) ∙ taken_more nodes place a at
+
     here_reached : IsReached program a
     here_reached = s.reached a (place, at)
 
@@ -94,13 +110,20 @@ noted program nodes now place placed bad p a at stands adds s once less few = re
         by_place : (i < place) ⊎ (place ≤ i) → IsFound program now (placed ++ p ∷ []) b ⊎ IsMissing program bad b
         by_place (inl earlier) =
             elim (s.told i b earlier (kept_back nodes now adds.kept i b (omega (arith, earlier, less)) here)) [
-              | inl found ↦ inl (found_more program nodes now placed p (successors p) b adds found)
+              | inl found ↦ inl (found_more program nodes now placed p (told_entries program table ++ successors p) b adds found)
               | inr missing ↦ inr missing
             ]
         by_place (inr later) =
             let same : i ≡ place = omega (arith, later, below) in
             let one : a ≡ b = some_same (sym (adds.kept place a at) ∙ ap (slice_get now) (sym same) ∙ here) in
-            inl (record { p = p; stands = subst (λ (x : ℕ). StandsAt program x p) one stands; listed = (length placed, get-push placed p); leads = adds.there })
+            inl (record {
+              p = p;
+              stands = subst (λ (x : ℕ). StandsAt program x p) one stands;
+              listed = (length placed, get-push placed p);
+              leads = λ c next. adds.there c (in_right (told_entries program table) (successors p) c next);
+              enters = λ c entry. adds.there c (in_left (told_entries program table) (successors p) c
+                  (told_entry program b table (subst (λ (x : ℕ). IsToldTable program x table) one told) c entry));
+            })
 
 lesser_cases : (kept : Option CodeFault) (fault : CodeFault) → (kept ≡ Some (lesser_of kept fault)) ⊎ (lesser_of kept fault ≡ fault)
 lesser_cases None fault = inr refl
@@ -127,9 +150,10 @@ lesser_kept (Some kept) fault a is = by_test (nat_le kept.address fault.address)
     by_test false e = grind (arith, nat_tests)
 
 -- that no instruction stands at the next node is told
-pub missed : (program : Program) (nodes : List ℕ) (place : ℕ) (placed : List Placed) (bad : Option CodeFault) (fault : CodeFault)
-    → slice_get nodes place ≡ Some fault.address → IsBad program fault.address fault.kind → Tells program nodes place placed bad nodes placed (Some (lesser_of bad fault))
-missed program nodes place placed bad fault at is s once less few = record {
+pub missed : (program : Program) (table : Option Table) (nodes : List ℕ) (place : ℕ) (placed : List Placed) (bad : Option CodeFault) (fault : CodeFault)
+    → slice_get nodes place ≡ Some fault.address → IsBad program fault.address fault.kind → IsToldTable program fault.address table
+    → Tells program table nodes placed bad nodes placed (Some (lesser_of bad fault)) place
+missed program table nodes place placed bad fault at is told total s once less few = record {
   reached = s.reached;
   started = s.started;
   told = tells;
@@ -137,7 +161,9 @@ missed program nodes place placed bad fault at is s once less few = record {
   along = λ e. absurd (no_some (sym e));
   worst = worse (lesser_cases bad fault) s.worst;
   within = omega (arith, less);
-  few = omega (arith, few);
+  weighed = subst (λ (xs : List ℕ). AreWeighed program xs (total + weight_with table)) (sym (taken_more nodes place fault.address at))
+      (weigh_one program nodes place fault.address table total at once told s.weighed);
+  few = few;
 }
   where
     kept_worst : (kept : Option CodeFault) (f : CodeFault) → kept ≡ Some f → IfSome kept (IsBadCode program) → IsBadCode program f
@@ -168,7 +194,7 @@ missed program nodes place placed bad fault at is s once less few = record {
 
 -- ---- the end of the search
 
-module _ (program : Program) (nodes : List ℕ) (place : ℕ) (placed : List Placed) (bad : Option CodeFault) (s : IsSearching program nodes place placed bad)
+module _ (program : Program) (nodes : List ℕ) (place total : ℕ) (placed : List Placed) (bad : Option CodeFault) (s : IsSearching program nodes place total placed bad)
     (once : IsDistinct nodes) (end : length nodes ≤ place) where
   told_each : (a : ℕ) → StandsIn nodes a → IsFound program nodes placed a ⊎ IsMissing program bad a
   told_each a at = let within = slice_get_within nodes at.0 a at.1 in s.told at.0 a (omega (arith, within, end)) at.1
@@ -183,17 +209,21 @@ module _ (program : Program) (nodes : List ℕ) (place : ℕ) (placed : List Pla
             found.leads b (subst (λ (q : Placed). StandsIn (successors q) b) (sym same) leads)
         | inr missing ↦ absurd (bad_stands program a missing.kind p missing.is_bad stands)
       ]
-  each_reached b (at-table reached is) = absurd (let nothing = is.1 in cc)
+  each_reached b (at-table {a = a} reached is) =
+      elim (told_each a (each_reached a reached)) [
+        | inl found ↦ found.enters b is
+        | inr missing ↦
+            (let first = first_stands program a is.table is.begins in
+            absurd (bad_stands program a missing.kind first.0 missing.is_bad first.1))
+      ]
 
-  weighed : (xs : List ℕ) → sum_by (weight_at program) xs ≡ length xs
-  weighed [] = refl
-  weighed (x ∷ xs) = let rest = weighed xs in let one = sum_by-cons (weight_at program) x xs in omega (arith, rest, one)
+  weighed : AreWeighed program nodes total
+  weighed = subst (λ (xs : List ℕ). AreWeighed program xs total) (take_all place nodes end) s.weighed
 
   not_too_much : IsTooMuch program → ⊥
   not_too_much is =
-      let most = sum_within (weight_at program) is.some nodes is.once (λ a at. each_reached a (is.reached a at)) in
-      let all = weighed nodes in
-      omega (arith, most, all, is.more, s.few, end)
+      let most = counted_within program nodes total weighed is.some (λ c at. each_reached c.address (is.reached c at)) is.begins is.once in
+      omega (arith, most, is.more, s.few)
 
   missing_of : (fault : CodeFault) → IsBadCode program fault → IsSomeAnd bad (λ f. f.address ≤ fault.address)
   missing_of fault is =
@@ -244,7 +274,7 @@ module _ (program : Program) (nodes : List ℕ) (place : ℕ) (placed : List Pla
       addresses = s.along e ∙ take_all place nodes end
 
       few : length placed ≤ code_limit
-      few = let same : length (map address_of placed) ≡ length nodes = ap length addresses in let long = length-map placed address_of in omega (arith, same, long, s.few, end, s.within)
+      few = let same : length (map address_of placed) ≡ length nodes = ap length addresses in let long = length-map placed address_of in omega (arith, same, long, s.few, at_least_one program nodes total weighed)
 
       no_missing : (a : ℕ) → IsMissing program bad a → ⊥
       no_missing a missing = subst (λ (b : Option CodeFault). IsSomeAnd b (λ f. f.address ≤ a)) e missing.kept
@@ -263,19 +293,24 @@ module _ (program : Program) (nodes : List ℕ) (place : ℕ) (placed : List Pla
             | inr missing ↦ absurd (no_missing a missing)
           ]
 
--- one node more than the limit is too much
-pub over : (program : Program) (nodes : List ℕ) (place : ℕ) (placed : List Placed) (bad : Option CodeFault) → IsSearching program nodes place placed bad → IsDistinct nodes
-    → place < length nodes → code_limit ≤ place → IsFirst (Holds program) 13 15 TooMuchCode
-over program nodes place placed bad s once less full = record {
-  holds = record { some = nodes; reached = s.reached; once = once; more = (let all = weigh nodes in omega (arith, all, less, full)) };
+-- what counts for more than the limit is too much
+pub over : (program : Program) (table : Option Table) (nodes : List ℕ) (place a total : ℕ) (placed : List Placed) (bad : Option CodeFault)
+    → IsSearching program nodes place total placed bad → IsDistinct nodes → slice_get nodes place ≡ Some a → IsToldTable program a table
+    → code_limit < total + weight_with table → IsFirst (Holds program) 13 15 TooMuchCode
+over program table nodes place a total placed bad s once at told more = record {
+  holds = too_much;
   from = omega arith;
   below = omega arith;
   first = before;
 }
   where
-    weigh : (xs : List ℕ) → sum_by (weight_at program) xs ≡ length xs
-    weigh [] = refl
-    weigh (x ∷ xs) = let rest = weigh xs in let one = sum_by-cons (weight_at program) x xs in omega (arith, rest, one)
+    front : AreWeighed program (take (place + 1) nodes) (total + weight_with table)
+    front = subst (λ (xs : List ℕ). AreWeighed program xs (total + weight_with table)) (sym (taken_more nodes place a at))
+        (weigh_one program nodes place a table total at once told s.weighed)
+
+    too_much : IsTooMuch program
+    too_much = over_limit program (take (place + 1) nodes) (total + weight_with table) front
+        (λ b is. let whole = stands_taken (place + 1) nodes b is in s.reached b whole) (distinct_taken (place + 1) nodes once) more
 
     before : (g : FileFault) → 13 ≤ rank g → Before g TooMuchCode → Holds program g → ⊥
     before TooMuchCode low (inl first) is = absurd (omega (arith, first))
@@ -289,18 +324,21 @@ over program nodes place placed bad s once less full = record {
 -- ---- as the code has it
 
 pub begins_from : (program : Program) (empty starts nodes : List ℕ) (placed : List Placed) → empty ≡ [] → starts ≡ program.entries → placed ≡ [] → Adds empty starts nodes
-    → IsSearching program nodes 0 placed None
+    → IsSearching program nodes 0 0 placed None
 begins_from program empty starts nodes placed none entries nothing adds =
-    subst (λ (ps : List Placed). IsSearching program nodes 0 ps None) (sym nothing)
+    subst (λ (ps : List Placed). IsSearching program nodes 0 0 ps None) (sym nothing)
     (begins program nodes (subst (λ (xs : List ℕ). Adds [] xs nodes) entries (subst (λ (xs : List ℕ). Adds xs starts nodes) none adds)))
 
-pub noted_from : (program : Program) (nodes more now : List ℕ) (place : ℕ) (placed placed' : List Placed) (bad : Option CodeFault) (p : Placed) (a : ℕ)
-    → slice_get nodes place ≡ Some a → StandsAt program a p → more ≡ successors p → placed' ≡ placed ++ p ∷ [] → Adds nodes more now → Tells program nodes place placed bad now placed' bad
-noted_from program nodes more now place placed placed' bad p a at stands leads pushed adds s once less few =
-    subst (λ (ps : List Placed). IsSearching program now (place + 1) ps bad) (sym pushed)
-    (noted program nodes now place placed bad p a at stands (subst (λ (xs : List ℕ). Adds nodes xs now) leads adds) s once less few)
+pub noted_from : (program : Program) (table : Option Table) (nodes more now : List ℕ) (place : ℕ) (placed placed' : List Placed) (bad : Option CodeFault) (p : Placed) (a : ℕ)
+    → slice_get nodes place ≡ Some a → StandsAt program a p → IsToldTable program a table → more ≡ told_entries program table ++ successors p → placed' ≡ placed ++ p ∷ []
+    → Adds nodes more now → Tells program table nodes placed bad now placed' bad place
+noted_from program table nodes more now place placed placed' bad p a at stands told leads pushed adds total s once less few =
+    subst (λ (ps : List Placed). IsSearching program now (place + 1) (total + weight_with table) ps bad) (sym pushed)
+    (noted program table nodes now place placed bad p a at stands told (subst (λ (xs : List ℕ). Adds nodes xs now) leads adds) total s once less few)
 
-pub missed_from : (program : Program) (nodes : List ℕ) (place : ℕ) (placed : List Placed) (bad : Option CodeFault) (fault lesser : CodeFault)
-    → lesser ≡ lesser_of bad fault → slice_get nodes place ≡ Some fault.address → IsBad program fault.address fault.kind → Tells program nodes place placed bad nodes placed (Some lesser)
-missed_from program nodes place placed bad fault lesser same at is s once less few =
-    subst (λ (f : CodeFault). IsSearching program nodes (place + 1) placed (Some f)) (sym same) (missed program nodes place placed bad fault at is s once less few)
+pub missed_from : (program : Program) (table : Option Table) (nodes : List ℕ) (place : ℕ) (placed : List Placed) (bad : Option CodeFault) (fault lesser : CodeFault)
+    → lesser ≡ lesser_of bad fault → slice_get nodes place ≡ Some fault.address → IsBad program fault.address fault.kind → IsToldTable program fault.address table
+    → Tells program table nodes placed bad nodes placed (Some lesser) place
+missed_from program table nodes place placed bad fault lesser same at is told total s once less few =
+    subst (λ (f : CodeFault). IsSearching program nodes (place + 1) (total + weight_with table) placed (Some f)) (sym same)
+    (missed program table nodes place placed bad fault at is told total s once less few)

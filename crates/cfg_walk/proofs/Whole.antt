@@ -12,7 +12,7 @@ use Rattle.x64_syntax.specs.declared.placed.Placed.{Placed}
 use Rattle.x64_decode.specs.Spelling.{Spells, BeginsWithSpelling, BeginsShortSpelling, BeginsSpelling}
 use Rattle.elf_read.specs.declared.fault.BadCodeKind.{BadCodeKind}
 use Rattle.elf_read.specs.declared.fault.BadCodeKind.TheVariants as bad
-use Rattle.elf_read.specs.declared.fault.FileFault.TheVariants.{BadCode, Overlap}
+use Rattle.elf_read.specs.declared.fault.FileFault.TheVariants.{BadCode, Indirect, Overlap}
 use Rattle.code_at.specs.Code.{Program, StandsAt, IsBad, IsInCode, code_from, flow_of}
 use Rattle.cfg_walk.specs.declared.code.Block.{Block}
 use Rattle.cfg_walk.specs.declared.code.Code.{Code}
@@ -31,6 +31,7 @@ use Rattle.cfg_walk.specs.Ways.{way_of}
 use Rattle.cfg_walk.proofs.BlockLemmas.{next, leader_reached, only}
 use Rattle.cfg_walk.proofs.Found.{threads_find}
 use Rattle.cfg_walk.proofs.Gathered.{leader_is}
+use Rattle.cfg_walk.proofs.Tables.{jump_indirect}
 use Rattle.cfg_walk.proofs.Ways.{way_led, way_returned, led_is, returned_is}
 
 -- ---- instructions
@@ -86,6 +87,7 @@ known_code program code is = record {
   instructions = is.placed;
   whole = whole program code is;
   apart = λ a inside. is.clear (Overlap a) (omega arith) (omega arith) inside;
+  no_table = λ a table reached begins. is.clear (Indirect table.jump) (omega arith) (omega arith) (jump_indirect program a table reached begins);
 }
 
 -- ---- blocks

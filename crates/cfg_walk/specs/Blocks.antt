@@ -9,7 +9,7 @@ use Rattle.x64_syntax.specs.declared.placed.Flow.TheVariants as flow
 use Rattle.x64_syntax.specs.declared.placed.Placed.{Placed}
 use Rattle.code_at.specs.Code.{Program, target_from}
 use Rattle.cfg_walk.specs.declared.code.Block.{Block}
-use Rattle.cfg_walk.specs.Reach.{IsReached, IsPlaced, end_of, entries_at}
+use Rattle.cfg_walk.specs.Reach.{IsReached, IsPlaced, end_of, HasEntry}
 
 -- the address in a list, where it belongs there
 abbrev pub where_plain : Flow → ℕ → List ℕ
@@ -38,7 +38,7 @@ led i f end = []
 -- a block begins at the address: a thread begins there, or it is an entry of a table, or an instruction leads there
 pub data IsLeader (program : Program) : ℕ → Type 0 where
   at-entry : {a : ℕ} → StandsIn program.entries a → IsLeader program a
-  at-table : {a b : ℕ} → IsReached program a → StandsIn (entries_at program a) b → IsLeader program b
+  at-table : {a b : ℕ} → IsReached program a → HasEntry program a b → IsLeader program b
   at-led : {b : ℕ} (p : Placed) → IsPlaced program p → StandsIn (led p.instr p.flow (end_of p)) b → IsLeader program b
 
 -- whether a block ends with the instruction: a jump, a call, RET or UD2

@@ -7,6 +7,9 @@ use Rattle.x64_syntax.specs.declared.placed.Flow.{Flow}
 use Rattle.x64_syntax.specs.declared.placed.Flow.TheVariants as flow
 use Rattle.x64_syntax.specs.declared.placed.Placed.{Placed}
 use Rattle.code_at.specs.Code.{Program, StandsAt, target_from}
+use Rattle.jump_table.specs.declared.entries.Table.{Table}
+use Rattle.jump_table.specs.Entries.{entries_from}
+use Rattle.jump_table.specs.Pattern.{Begins}
 
 -- where an instruction ends
 abbrev pub end_of : Placed → ℕ
@@ -37,16 +40,22 @@ after i f end = end ∷ []
 abbrev pub successors : Placed → List ℕ
 successors p = after p.instr p.flow (end_of p)
 
--- the entries of the table whose pattern begins at an address, which are its successors too; no pattern is known so far
-abbrev pub entries_at : Program → ℕ → List ℕ
-entries_at program address = []
+-- the entries of a table
+abbrev pub entries_of : Program → Table → List ℕ
+entries_of program table = entries_from program.parts table.base table.count
+
+-- an entry of the table whose pattern begins at the address
+pub record HasEntry (program : Program) (address entry : ℕ) : Type 0 where
+  pub table : Table
+  pub begins : Begins program address table
+  pub stands : StandsIn (entries_of program table) entry
 
 -- An address is reached: a thread begins there, or it is a successor of the instruction at a reached address, or an entry
 -- of the table whose pattern begins at one.
 pub data IsReached (program : Program) : ℕ → Type 0 where
   at-entry : {a : ℕ} → StandsIn program.entries a → IsReached program a
   at-next : {a b : ℕ} (p : Placed) → IsReached program a → StandsAt program a p → StandsIn (successors p) b → IsReached program b
-  at-table : {a b : ℕ} → IsReached program a → StandsIn (entries_at program a) b → IsReached program b
+  at-table : {a b : ℕ} → IsReached program a → HasEntry program a b → IsReached program b
 
 -- the instruction stands at its address, which is reached
 pub record IsPlaced (program : Program) (p : Placed) : Type 0 where

@@ -4,7 +4,7 @@ ghost use Rattle.gen_input.specs.BuiltFile.{IsShort};
 
 use crate::{Code, recover};
 use elf_read::{BadCodeKind, CodeFault, Elf, FileFault, TransFault, read_elf};
-use ev_graph::List;
+use ev_graph::{List, NoMemory};
 use gen_input::{Symbol, build};
 use std::alloc::Global;
 use std::test::Fail;
@@ -136,5 +136,60 @@ fn the_limit_is_exact(rt: HostRuntime) -> Result<(), Fail> {
     more.push(0xC3)?;
     let fault = fault_of(rt.alloc(), &more, NOWHERE)?;
     assert_eq!(rt; fault, FileFault::TooMuchCode);
+    Ok(())
+}
+
+/// Puts an address behind what the list has, as an entry of a table: eight bytes, the lowest first.
+fn push_entry(into: &mut Vec<u8>, address: u32) -> Result<(), NoMemory> {
+    for byte in address.to_le_bytes() {
+        into.push(byte)?;
+    }
+    for _ in 0..4 {
+        into.push(0)?;
+    }
+    Ok(())
+}
+
+/// Code that jumps through one table of 4,096 entries by 15 patterns, each `cmp edi, 4095; ja; mov edi, edi; jmp`, and then
+/// does nothing so many times and returns. The `ja` leads to the next pattern, and each entry to the return.
+fn fifteen_patterns(alloc: Global, nops: u32) -> Result<Vec<u8>, Fail>
+    requires { nops ≤ 10000 }
+    ensures { IfOk result (λ code. length code.items ≤ 2 ^ 20) }
+{
+    let mut code = Vec::new(alloc);
+    let exit = 0x401000 + 15 * 17 + nops;
+    for _ in 0..15 {
+        code.extend_from_slice(b"\x81\xFF\xFF\x0F\0\0\x77\x09\x89\xFF\xFF\x24\xFD")?;
+        code.extend_from_slice(&(exit + 1).to_le_bytes())?;
+    }
+    code.resize(15 * 17 + nops as usize, 0x90)?;
+    code.push(0xC3)?;
+    for _ in 0..4096 {
+        push_entry(&mut code, exit)?;
+    }
+    Ok(code)
+}
+
+#[test]
+fn the_entries_of_a_table_are_code(rt: HostRuntime) -> Result<(), Fail> {
+    let alloc = rt.alloc();
+    // cmp edi, 1; ja to the return; mov edi, edi; jmp [rdi*8+40100F]; ret; a table of 40100E and 500000.
+    let head = b"\x83\xFF\x01\x77\x09\x89\xFF\xFF\x24\xFD\x0F\x10\x40\0\xC3";
+    let mut code = Vec::from_slice(alloc, head)?;
+    push_entry(&mut code, 0x40100E)?;
+    push_entry(&mut code, 0x500000)?;
+    let outside = fault_of(alloc, &code, NOWHERE)?;
+    assert_eq!(rt; outside, bad(0x500000, BadCodeKind::Outside));
+    Ok(())
+}
+
+#[test]
+fn entries_count_for_each_pattern(rt: HostRuntime) -> Result<(), Fail> {
+    let alloc = rt.alloc();
+    // 15 patterns of 4 instructions and 4,096 entries, 4,035 instructions that do nothing, and a return are 65,536.
+    let all = fault_of(alloc, &fifteen_patterns(alloc, 4035)?, NOWHERE)?;
+    assert_eq!(rt; all, FileFault::Indirect(0x40100A));
+    let more = fault_of(alloc, &fifteen_patterns(alloc, 4036)?, NOWHERE)?;
+    assert_eq!(rt; more, FileFault::TooMuchCode);
     Ok(())
 }

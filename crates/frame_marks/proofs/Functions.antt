@@ -18,7 +18,7 @@ use Rattle.cfg_walk.specs.Reach.IsReached.{at-entry as reach-entry, at-next as r
 use Rattle.cfg_walk.specs.Blocks.{IsFunction, called}
 use Rattle.cfg_walk.specs.Code.{IsCodeOf}
 use Rattle.cfg_walk.specs.Machine.{placed_at}
-use Rattle.cfg_walk.proofs.CallerLemmas.{finds_code, whole}
+use Rattle.cfg_walk.proofs.CallerLemmas.{finds_code, no_table, whole}
 use Rattle.frame_marks.specs.Bodies.{IsInBody, on_from}
 use Rattle.frame_marks.specs.Bodies.IsInBody.{at-start, at-next, at-table}
 use Rattle.frame_marks.specs.Lists.{address_of, goes_on_at, goes_on_after}
@@ -54,7 +54,7 @@ module _ (program : Program) where
   body_reached f a reached at-start = reached
   body_reached f b reached (at-next {a = a} p body stands at) =
       reach-next p (body_reached f a reached body) stands (on_after p.instr p.flow (end_of p) b at)
-  body_reached f b reached (at-table body at) = absurd (let none = at.1 in cc)
+  body_reached f b reached (at-table {a = a} body at) = reach-table (body_reached f a reached body) at
 
   -- a function is reached
   pub function_reached : (f : ℕ) → IsFunction program f → IsReached program f
@@ -74,7 +74,7 @@ module _ (program : Program) where
         } in
         (b, inr (record { p = p; placed = placed; target = target }), at-start))
   ]
-  in_some_body b (reach-table reached at) = absurd (let none = at.1 in cc)
+  in_some_body b (reach-table {a = a} reached at) = let rest = in_some_body a reached in (rest.0, rest.1, at-table rest.2 at)
 
 module _ (program : Program) (code : Code) (is : IsCodeOf program code) where
   -- the instruction at a reached address is the one that is found there
@@ -104,7 +104,7 @@ module _ (program : Program) (code : Code) (is : IsCodeOf program code) where
   body_to f b reached (at-next {a = a} p body stands at) =
       let found = found_here a p (body_reached program f a reached body) stands in
       step (body_to f a reached body) (subst (λ o. StandsIn (goes_on_after o) b) (sym found) at)
-  body_to f b reached (at-table body at) = absurd (let none = at.1 in cc)
+  body_to f b reached (at-table {a = a} body at) = absurd (no_table program code is a at.table (body_reached program f a reached body) at.begins)
 
   pub body_from : (f a : ℕ) → From (goes_on_at code.placed) a f → IsInBody program f a
   body_from f a (start at) = subst (IsInBody program f) (only f a at.0 at.1) at-start

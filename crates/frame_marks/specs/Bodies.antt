@@ -6,7 +6,7 @@ use Rattle.x64_syntax.specs.declared.instr.Instr.TheVariants as instr
 use Rattle.x64_syntax.specs.declared.placed.Flow.{Flow}
 use Rattle.x64_syntax.specs.declared.placed.Placed.{Placed}
 use Rattle.code_at.specs.Code.{Program, StandsAt}
-use Rattle.cfg_walk.specs.Reach.{after, end_of, entries_at}
+use Rattle.cfg_walk.specs.Reach.{after, end_of, HasEntry}
 
 -- where a function goes on after an instruction: where control may, but for the target of a call
 abbrev pub on_from : Instr → Flow → (end : ℕ) → List ℕ
@@ -21,4 +21,4 @@ pub data IsInBody (program : Program) (function : ℕ) : ℕ → Type 0 where
   at-start : IsInBody program function function
   at-next : {a b : ℕ} (p : Placed) → IsInBody program function a → StandsAt program a p → StandsIn (goes_on p) b
       → IsInBody program function b
-  at-table : {a b : ℕ} → IsInBody program function a → StandsIn (entries_at program a) b → IsInBody program function b
+  at-table : {a b : ℕ} → IsInBody program function a → HasEntry program a b → IsInBody program function b

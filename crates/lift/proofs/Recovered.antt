@@ -1,12 +1,11 @@
 -- The instructions of a block of recovered code stand one behind the other in the code's list, and are lifted.
 use Rattle.std.proofs.Common.{◌≡◌, ◌<◌, ◌≤◌, ◌+◌, ℕ, zero, suc, Bool, true, false, List, [], ◌∷◌, length, take, drop, map, get_or, ◌⊎◌, inl, inr, Some, refl, sym, ap, subst, ◌∙◌, arith, ltb}
-use Rattle.std.specs.Prelude.{if◌then◌else◌, sum_by, slice_get}
+use Rattle.std.specs.Prelude.{if◌then◌else◌, slice_get}
 use Rattle.std.specs.Option.{option_map}
 use Rattle.std.specs.List.{AllByRecursion}
 use Rattle.std.specs.List.Sorted.{IsPartitionPoint, IsNonDecreasingBy}
 use Rattle.std.proofs.lemmas.Bool.{cases_lt, ltb-true, ltb-false}
 use Rattle.std.proofs.lemmas.List.{length-map}
-use Rattle.std.proofs.lemmas.List.Sums.{sum_by-cons}
 use Rattle.std.proofs.lemmas.Option.{slice_get_within, slice_get-get_or, slice_get-map, get_or_from_slice_get}
 use Rattle.ev_graph.specs.Places.{StandsIn, IsDistinct}
 use Rattle.x64_syntax.specs.Formed.{IsFlowOf}
@@ -21,7 +20,8 @@ use Rattle.code_at.proofs.CallerLemmas.{some_length, ends_low, is_formed}
 use Rattle.cfg_walk.specs.declared.code.Block.{Block}
 use Rattle.cfg_walk.specs.declared.code.Code.{Code}
 use Rattle.cfg_walk.specs.Reach.{IsReached, IsPlaced, end_of}
-use Rattle.cfg_walk.specs.Faults.{weight_at, code_limit, is_indirect}
+use Rattle.cfg_walk.specs.Faults.{code_limit, is_indirect}
+use Rattle.cfg_walk.proofs.CallerLemmas.{many_reached}
 use Rattle.cfg_walk.specs.Blocks.{IsStretch, BeginAt, Follow, AreOf}
 use Rattle.cfg_walk.specs.Blocks.IsStretch.{ends, goes-on}
 use Rattle.cfg_walk.specs.Code.{IsIncreasing, IsCodeOf}
@@ -169,10 +169,6 @@ module _ (program : Program) (code : Code) (is : IsCodeOf program code) where
       addresses : List ℕ
       addresses = map (λ (p : Placed). p.address) code.placed
 
-      weigh : (xs : List ℕ) → sum_by (weight_at program) xs ≡ length xs
-      weigh [] = refl
-      weigh (x ∷ xs) = let rest = weigh xs in let one = sum_by-cons (weight_at program) x xs in omega (arith, rest, one)
-
       reached : (a : ℕ) → StandsIn addresses a → IsReached program a
       reached a (k, at) =
           let (p, there, same) = of_map code.placed k a at in
@@ -190,8 +186,7 @@ module _ (program : Program) (code : Code) (is : IsCodeOf program code) where
       by (inr le) = omega (arith, le)
       by (inl less) =
           let long = length-map code.placed (λ (p : Placed). p.address) in
-          absurd (is.clear TooMuchCode (omega arith) (omega arith)
-          (record { some = addresses; reached = reached; once = once; more = (let all = weigh addresses in omega (arith, all, long, less)) }))
+          absurd (is.clear TooMuchCode (omega arith) (omega arith) (many_reached program addresses reached once (omega (arith, long, less))))
 
 module _ (program : Program) (code : Code) (segments : AllByRecursion IsSegment program.parts) (is : IsCodeOf program code) where
   -- it is lifted
