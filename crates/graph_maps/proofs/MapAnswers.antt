@@ -9,7 +9,9 @@ use Rattle.ev_graph.specs.WellFormed.{HasLockedPairs}
 use Rattle.order_models.specs.Orders.{Tso, Limm, Arm}
 use Rattle.order_models.specs.Consistent.{Consistent}
 use Rattle.x64_syntax.specs.declared.slots.Slot.{Slot}
-use Rattle.graph_maps.specs.Maps.{limm_thread, x86_thread, is_marked, is_marked_access, is_private_in}
+use Rattle.fence_place.specs.Marked.{marked}
+use Rattle.fence_plan.specs.Private.{is_private}
+use Rattle.graph_maps.specs.Maps.{limm_thread, x86_thread, is_private_access, is_private_in}
 use Rattle.graph_maps.specs.Needs.{SameEvents, HasFences, IsDmb, IsLimmFence, limm_fences, HasMappingFences, AreUnlocked, AreApart, HasWriteSources}
 use Rattle.graph_maps.proofs.Renamed.{limm_same, limm_frm, limm_fww, limm_fsc, x86_same, x86_mfence}
 use Rattle.ev_graph.proofs.EventLemmas.{access_of}
@@ -41,9 +43,9 @@ unlocked_first false rest both = refl
 pub marked_unlocked : (slots : List Slot) (threads : List ThreadRun) → AreUnlocked (is_private_in slots threads) threads
 marked_unlocked slots threads a in_a private =
     let found = access_of threads a in_a in
-    let Marked : Option Access → Type 0 = λ o. is_marked_access slots o ≡ true in
-    let marked : is_marked slots found.0 ≡ true = subst Marked found.1 private in
-    let unlocked = unlocked_first found.0.locked _ marked in
+    let Private : Option Access → Type 0 = λ o. is_private_access (marked slots) o ≡ true in
+    let is : is_private (marked slots) found.0 ≡ true = subst Private found.1 private in
+    let unlocked = unlocked_first found.0.locked _ is in
     let same : found.0.locked ≡ a.locked = ap {B = Bool} (λ (e : Event). e.locked) found.2 in
     sym same ∙ unlocked
 
