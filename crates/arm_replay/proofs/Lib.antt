@@ -1,4 +1,6 @@
+pub mod AccessLemmas
 pub mod Advances
+pub mod CallerLemmas
 pub mod EndLemmas
 pub mod LayoutLemmas
 pub mod MadeLemmas
@@ -6,5 +8,6 @@ pub mod MemoryLemmas
 pub mod RelationLemmas
 pub mod RowShapes
 pub mod RunLemmas
+pub mod ShapeLemmas
 pub mod StepLemmas
 pub mod ValueLemmas

@@ -92,7 +92,7 @@ no_permission true true byte flags other code none = ap (λ f. has_flag f 2) cod
 no_permission false true byte flags other code none = ap (λ f. has_flag f 4) code
 no_permission write false byte flags other code none = none
 
-permits_none : (write : Bool) → permits write None ≡ false
+pub permits_none : (write : Bool) → permits write None ≡ false
 permits_none true = refl
 permits_none false = refl
 

@@ -17,7 +17,8 @@ use Rattle.arm_replay.specs.Faults.{IsThreadReplay}
 use Rattle.arm_replay.specs.Walking.{IsWalkFault}
 use Rattle.arm_replay.specs.Replays.{thread_step, IsGiven, IsRunBy, AreRunsBy, IsFirstFaultBy, IsReplayFault, WalksTo}
 
-get_some : {A : Type 0} (xs : List A) (j : ℕ) → j < length xs → (x : A) × (slice_get xs j ≡ Some x)
+-- there is an element at each place
+pub get_some : {A : Type 0} (xs : List A) (j : ℕ) → j < length xs → (x : A) × (slice_get xs j ≡ Some x)
 get_some [] j lt = absurd (omega (arith, lt))
 get_some (x ∷ xs) zero lt = (x, refl)
 get_some (x ∷ xs) (suc j) lt = get_some xs j (omega (arith, lt))

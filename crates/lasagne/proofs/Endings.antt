@@ -16,9 +16,9 @@ use Rattle.lasagne.specs.Command.{World, EndsPlan, EndsTranslate, IsSaid, OfImag
 use Rattle.lasagne.specs.Plan.{HasPlan, plan_text}
 use Rattle.lasagne.specs.Texts.{refused_line}
 
--- a count that rose later rose
-pub rose_later : (a b c : ℕ) → a ≤ b → Rose b c → Rose a c
-rose_later a b c low rose = omega (arith, rose)
+-- a count that rose after it stayed rose
+pub rose_after : (a b c : ℕ) → b ≡ a → Rose b c → Rose a c
+rose_after a b c same rose = omega (arith, same, rose)
 
 -- a file that is too long has that fault first
 longer_is_first : (bytes : List ℕ) → 67108864 < length bytes → IsRefusedFor bytes file.TooLong

@@ -13,11 +13,13 @@ use Rattle.lasagne.specs.Plan.{HasPlan, plan_text}
 use Rattle.lasagne.specs.Shape.{Shape, Translate, Plan, words_of, HasNoShape}
 use Rattle.lasagne.specs.Texts.{usage_line, refused_line, translated_line}
 
--- What is told of the outside at a moment: the files, what the sink has taken, and the two counts of faults.
+-- What is told of the outside at a moment: the files, what the sink has taken, and the counts of failed gets, failed puts and failed
+-- writes.
 pub record World : Type 0 where
   pub files : Option Files
   pub taken : Option (List ℕ)
-  pub shelf_faults : ℕ
+  pub get_faults : ℕ
+  pub put_faults : ℕ
   pub sink_faults : ℕ
 
 -- no file is touched; nothing is written
@@ -57,9 +59,9 @@ IsRefusal from old new = (why : FileFault) × HasFault from old why × Says (ref
 abbrev pub EndsTranslate : Status → List ℕ → List ℕ → World → World → Type 0
 EndsTranslate Done from to old new = HasImageAnd from to old new (λ summary. Told old.taken new.taken (Took (translated_line summary)))
 EndsTranslate Refused from to old new = SameFiles old new × IsRefusal from old new
-EndsTranslate ReadFailed from to old new = Rose old.shelf_faults new.shelf_faults × SameFiles old new × SameTaken old new
+EndsTranslate ReadFailed from to old new = Rose old.get_faults new.get_faults × SameFiles old new × SameTaken old new
 EndsTranslate WriteFailed from to old new =
-    Rose old.shelf_faults new.shelf_faults × OfImage from old (λ input code image. Told old.files new.files (IsTorn to image)) × SameTaken old new
+    Rose old.put_faults new.put_faults × OfImage from old (λ input code image. Told old.files new.files (IsTorn to image)) × SameTaken old new
 EndsTranslate OutFailed from to old new =
     Rose old.sink_faults new.sink_faults × HasImageAnd from to old new (λ summary. Told old.taken new.taken (TookPart (translated_line summary)))
 EndsTranslate NoMemory from to old new = SameTaken old new × (SameFiles old new ⊎ HasImage from to old new)
@@ -77,7 +79,7 @@ OfPlan from old new P =
 abbrev pub EndsPlan : Status → List ℕ → World → World → Type 0
 EndsPlan Done from old new = OfPlan from old new (λ text. Told old.taken new.taken (Took text))
 EndsPlan Refused from old new = SameFiles old new × IsRefusal from old new
-EndsPlan ReadFailed from old new = Rose old.shelf_faults new.shelf_faults × SameFiles old new × SameTaken old new
+EndsPlan ReadFailed from old new = Rose old.get_faults new.get_faults × SameFiles old new × SameTaken old new
 EndsPlan OutFailed from old new =
     Rose old.sink_faults new.sink_faults × OfPlan from old new (λ text. Told old.taken new.taken (TookPart text))
 EndsPlan NoMemory from old new = SameTaken old new × SameFiles old new

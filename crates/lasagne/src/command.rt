@@ -69,8 +69,8 @@ fn translate_command<H: Shelf, O: Sink>(
     out: &mut O,
 ) -> Status
     ensures { EndsTranslate result from.now to.now
-        (record { files = H.files shelf.old; taken = O.taken out.old; shelf_faults = H.faults shelf.old; sink_faults = O.faults out.old })
-        (record { files = H.files shelf.new; taken = O.taken out.new; shelf_faults = H.faults shelf.new; sink_faults = O.faults out.new }) }
+        (record { files = H.files shelf.old; taken = O.taken out.old; get_faults = H.get_faults shelf.old; put_faults = H.put_faults shelf.old; sink_faults = O.faults out.old })
+        (record { files = H.files shelf.new; taken = O.taken out.new; get_faults = H.get_faults shelf.new; put_faults = H.put_faults shelf.new; sink_faults = O.faults out.new }) }
 {
     let bytes = match shelf.get(alloc, from, INPUT_LIMIT) {
         Ok(bytes) => bytes,
@@ -101,8 +101,8 @@ fn translate_command<H: Shelf, O: Sink>(
 /// Writes the fence plan of the file under a name, and puts nothing.
 fn plan_command<H: Shelf, O: Sink>(alloc: Global, from: &str, shelf: &mut H, out: &mut O) -> Status
     ensures { EndsPlan result from.now
-        (record { files = H.files shelf.old; taken = O.taken out.old; shelf_faults = H.faults shelf.old; sink_faults = O.faults out.old })
-        (record { files = H.files shelf.new; taken = O.taken out.new; shelf_faults = H.faults shelf.new; sink_faults = O.faults out.new }) }
+        (record { files = H.files shelf.old; taken = O.taken out.old; get_faults = H.get_faults shelf.old; put_faults = H.put_faults shelf.old; sink_faults = O.faults out.old })
+        (record { files = H.files shelf.new; taken = O.taken out.new; get_faults = H.get_faults shelf.new; put_faults = H.put_faults shelf.new; sink_faults = O.faults out.new }) }
 {
     let input = match shelf.get(alloc, from, INPUT_LIMIT) {
         Ok(bytes) => bytes,
@@ -132,8 +132,8 @@ fn plan_command<H: Shelf, O: Sink>(alloc: Global, from: &str, shelf: &mut H, out
 /// puts nothing.
 pub fn run<H: Shelf, O: Sink>(alloc: Global, words: &[Word], shelf: &mut H, out: &mut O) -> Status
     ensures { Answers result words.now
-        (record { files = H.files shelf.old; taken = O.taken out.old; shelf_faults = H.faults shelf.old; sink_faults = O.faults out.old })
-        (record { files = H.files shelf.new; taken = O.taken out.new; shelf_faults = H.faults shelf.new; sink_faults = O.faults out.new }) }
+        (record { files = H.files shelf.old; taken = O.taken out.old; get_faults = H.get_faults shelf.old; put_faults = H.put_faults shelf.old; sink_faults = O.faults out.old })
+        (record { files = H.files shelf.new; taken = O.taken out.new; get_faults = H.get_faults shelf.new; put_faults = H.put_faults shelf.new; sink_faults = O.faults out.new }) }
 {
     match words {
         [verb, from, to] if is_translate(verb) => {

@@ -30,12 +30,13 @@ abbrev pub place_of : List Named → List ℕ → Option ℕ
 place_of [] name = None
 place_of (file ∷ files) name = if bytes_eq file.name name then Some 0 else option_map suc (place_of files name)
 
--- a shelf in memory: its files, the numbers of the calls that fail, and how many calls and faults there were
+-- a shelf in memory: its files, the numbers of the calls that fail, and how many calls, failed gets and failed puts there were
 pub record ShelfState : Type 0 where
   pub files : List Named
   pub failing : List ℕ
   pub calls : ℕ
-  pub faults : ℕ
+  pub get_faults : ℕ
+  pub put_faults : ℕ
 
 -- a sink in memory: the bytes that it has taken, the numbers of the calls that fail, and how many calls and faults there were
 pub record SinkState : Type 0 where
@@ -59,13 +60,17 @@ is_listed failing call = list_any (λ number. number == call) failing
 abbrev pub shelf_called : ShelfState → ShelfState
 shelf_called s = record s { calls = s.calls + 1 }
 
--- the shelf after a call that fails
-abbrev pub shelf_failed : ShelfState → ShelfState
-shelf_failed s = record s { calls = s.calls + 1; faults = s.faults + 1 }
+-- the shelf after a get that fails
+abbrev pub get_failed : ShelfState → ShelfState
+get_failed s = record s { calls = s.calls + 1; get_faults = s.get_faults + 1 }
 
--- the shelf after a call that found no memory: a call that is spent isn't counted, and one that is listed counts as a fault
+-- the shelf after a put that fails
+abbrev pub put_failed : ShelfState → ShelfState
+put_failed s = record s { calls = s.calls + 1; put_faults = s.put_faults + 1 }
+
+-- the shelf after a put that found no memory: a call that is spent isn't counted, and one that is listed counts as a fault
 abbrev pub shelf_counted : ShelfState → ShelfState
-shelf_counted s = if is_spent s.calls then s else (if is_listed s.failing s.calls then shelf_failed s else shelf_called s)
+shelf_counted s = if is_spent s.calls then s else (if is_listed s.failing s.calls then put_failed s else shelf_called s)
 
 -- what `get` gives of the bytes under the name
 abbrev pub given_of : ℕ → Option (List ℕ) → Result (List ℕ) GetFault
@@ -79,13 +84,13 @@ get_answer s name limit =
 
 -- the shelf after a call looked for these bytes: where there are none it failed
 abbrev pub shelf_looked : ShelfState → Option (List ℕ) → ShelfState
-shelf_looked s None = shelf_failed s
+shelf_looked s None = get_failed s
 shelf_looked s (Some bytes) = shelf_called s
 
 -- the shelf after `get`
 abbrev pub after_get : ShelfState → List ℕ → ShelfState
 after_get s name =
-    if is_spent s.calls then s else (if is_listed s.failing s.calls then shelf_failed s else shelf_looked s (file_at s.files name))
+    if is_spent s.calls then s else (if is_listed s.failing s.calls then get_failed s else shelf_looked s (file_at s.files name))
 
 -- the answer, but for want of memory
 abbrev pub IsGot : {V : Type 0} → (V → List ℕ) → Result (List ℕ) GetFault → Result V GetFault → Type 0
@@ -100,7 +105,7 @@ shelf_put s name bytes = record (shelf_called s) { files = with_file s.files nam
 
 -- the shelf after a listed call: it keeps the first half of the bytes
 abbrev pub shelf_torn : ShelfState → List ℕ → List ℕ → ShelfState
-shelf_torn s name bytes = record (shelf_failed s) { files = with_file s.files name (first_half bytes) }
+shelf_torn s name bytes = record (put_failed s) { files = with_file s.files name (first_half bytes) }
 
 -- what `put` answers and leaves: a call that is spent or finds no memory keeps nothing, and one that is listed fails
 abbrev pub IsPutInMemory : ShelfState → List ℕ → List ℕ → ShelfState → Result (Unit {0}) PutFault → Type 0

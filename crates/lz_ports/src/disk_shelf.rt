@@ -9,19 +9,24 @@ use std::rt::Files;
 /// How many bytes are asked for at once.
 const PIECE: usize = 65_536;
 
-/// The files of the system. It tells nothing of their contents, and counts each refusal.
+/// The files of the system. It tells nothing of their contents, and counts refused gets and refused puts.
 #[derive(Drop)]
 pub struct DiskShelf<'a, R: Files> {
     rt: &'a R,
-    faults: u64,
+    get_faults: u64,
+    put_faults: u64,
 }
 
 impl<'a, R: Files> DiskShelf<'a, R> {
     /// The files that the runtime reaches.
     pub fn new(rt: &'a R) -> DiskShelf<'a, R>
-        ensures { result.faults ≡ 0 }
+        ensures { (result.get_faults ≡ 0) × (result.put_faults ≡ 0) }
     {
-        DiskShelf { rt, faults: 0 }
+        DiskShelf {
+            rt,
+            get_faults: 0,
+            put_faults: 0,
+        }
     }
 }
 
@@ -30,12 +35,14 @@ impl<'a, R: Files> Shelf for DiskShelf<'a, R> {
 
     ghost files = { λ shelf. None };
 
-    ghost faults = { λ shelf. shelf.faults };
+    ghost get_faults = { λ shelf. shelf.get_faults };
+
+    ghost put_faults = { λ shelf. shelf.put_faults };
 
     fn get(&mut self, alloc: Global, name: &str, limit: u64) -> Result<Vec<u8>, GetFault> {
         let answer = read_file(self.rt, alloc, name, limit);
         if let Err(GetFault::Failed) = answer {
-            self.faults = self.faults.saturating_add(1);
+            self.get_faults = self.get_faults.saturating_add(1);
         }
         answer
     }
@@ -43,7 +50,7 @@ impl<'a, R: Files> Shelf for DiskShelf<'a, R> {
     fn put(&mut self, name: &str, bytes: &[u8]) -> Result<(), PutFault> {
         let answer = write_file(self.rt, name, bytes);
         if let Err(PutFault::Failed) = answer {
-            self.faults = self.faults.saturating_add(1);
+            self.put_faults = self.put_faults.saturating_add(1);
         }
         answer
     }

@@ -43,7 +43,8 @@ pub struct MemShelf {
     files: Vec<NamedFile>,
     failing: Vec<u64>,
     calls: u64,
-    faults: u64,
+    get_faults: u64,
+    put_faults: u64,
 }
 
 impl Model for MemShelf {
@@ -52,23 +53,24 @@ impl Model for MemShelf {
 
     ghost Value = { ShelfState };
 
-    ghost view = { λ shelf. record { files = shelf.files.items; failing = shelf.failing.items; calls = shelf.calls; faults = shelf.faults } };
+    ghost view = { λ shelf. record { files = shelf.files.items; failing = shelf.failing.items; calls = shelf.calls; get_faults = shelf.get_faults; put_faults = shelf.put_faults } };
 
-    ghost invariant = { λ shelf. shelf.faults ≤ shelf.calls };
+    ghost invariant = { λ shelf. (shelf.get_faults ≤ shelf.calls) × (shelf.put_faults ≤ shelf.calls) };
 }
 
 impl MemShelf {
     /// A shelf that holds these files, and of whose calls those with the listed numbers fail; calls
     /// count from 0.
     pub fn new(alloc: Global, files: Vec<NamedFile>, failing: Vec<u64>) -> MemShelf
-        ensures { result ≡ record { files = files.items; failing = failing.items; calls = 0; faults = 0 } }
+        ensures { result ≡ record { files = files.items; failing = failing.items; calls = 0; get_faults = 0; put_faults = 0 } }
     {
         MemShelf {
             alloc,
             files,
             failing,
             calls: 0,
-            faults: 0,
+            get_faults: 0,
+            put_faults: 0,
         }
     }
 
@@ -120,10 +122,11 @@ fn store(
 }
 
 impl MemShelf {
-    /// Counts a call, and a fault where it is listed.
+    /// Counts a call, and tells whether it is listed. It counts no fault.
     fn begin_call(&mut self) -> Call
         ensures counted { IsCounted self.old self.new result }
-        ensures room { result ≡ Call.Fine → self.new.faults < self.new.calls }
+        ensures get_room { result ≢ Call.Spent → self.new.get_faults < self.new.calls }
+        ensures put_room { result ≢ Call.Spent → self.new.put_faults < self.new.calls }
     {
         if self.calls == u64::MAX {
             return Call::Spent;
@@ -131,11 +134,9 @@ impl MemShelf {
         let listed = self.failing.contains(&self.calls);
         self.calls += 1;
         if listed {
-            self.faults += 1;
-            Call::Listed
-        } else {
-            Call::Fine
+            return Call::Listed;
         }
+        Call::Fine
     }
 
     /// Puts these bytes under a name, and counts nothing.
@@ -158,26 +159,32 @@ impl Shelf for MemShelf {
 
     ghost files = { λ shelf. Some (file_at shelf.files) };
 
-    ghost faults = { λ shelf. shelf.faults };
+    ghost get_faults = { λ shelf. shelf.get_faults };
+
+    ghost put_faults = { λ shelf. shelf.put_faults };
 
     fn get(&mut self, alloc: Global, name: &str, limit: u64) -> Result<Vec<u8>, GetFault>
         ensures bytes { IfOk result (λ v. file_at self.old.files name.now ≡ Some v.items) }
         ensures limit { IfOk result (λ v. length v.items ≤ limit) }
         ensures same { self.new.files ≡ self.old.files }
-        ensures cause { HasCause GetFault.Failed self.old.faults self.new.faults result }
-        ensures too_long { result ≡ Err GetFault.TooLong → IsLonger (file_at self.old.files) name.now limit × (Rose self.old.faults self.new.faults → ⊥) }
-        ensures longer { IsLonger (file_at self.old.files) name.now limit → (Rose self.old.faults self.new.faults → ⊥)
+        ensures cause { HasCause GetFault.Failed self.old.get_faults self.new.get_faults result }
+        ensures no_put { self.new.put_faults ≡ self.old.put_faults }
+        ensures too_long { result ≡ Err GetFault.TooLong → IsLonger (file_at self.old.files) name.now limit × (Rose self.old.get_faults self.new.get_faults → ⊥) }
+        ensures longer { IsLonger (file_at self.old.files) name.now limit → (Rose self.old.get_faults self.new.get_faults → ⊥)
             → (result ≡ Err GetFault.TooLong) ⊎ (result ≡ Err GetFault.NoMemory) }
         ensures answer { IsGot (λ v. v.items) (get_answer self.old name.now limit) result }
         ensures after { self.new ≡ after_get self.old name.now }
     {
         match self.begin_call() {
             Call::Spent => return Err(GetFault::NoMemory),
-            Call::Listed => return Err(GetFault::Failed),
+            Call::Listed => {
+                self.get_faults += 1;
+                return Err(GetFault::Failed);
+            }
             Call::Fine => {}
         }
         let Some(bytes) = bytes_at(&self.files, name) else {
-            self.faults += 1;
+            self.get_faults += 1;
             return Err(GetFault::Failed);
         };
         if bytes.len() as u64 > limit {
@@ -190,12 +197,14 @@ impl Shelf for MemShelf {
         ensures ok { OnOk result (IsPut name.now bytes.now (file_at self.old.files) (file_at self.new.files)) }
         ensures failed { result ≡ Err PutFault.Failed → IsTorn name.now bytes.now (file_at self.old.files) (file_at self.new.files) }
         ensures no_memory { result ≡ Err PutFault.NoMemory → self.new.files ≡ self.old.files }
-        ensures cause { HasCause PutFault.Failed self.old.faults self.new.faults result }
+        ensures cause { HasCause PutFault.Failed self.old.put_faults self.new.put_faults result }
+        ensures no_get { self.new.get_faults ≡ self.old.get_faults }
         ensures exact { IsPutInMemory self.old name.now bytes.now self.new result }
     {
         match self.begin_call() {
             Call::Spent => Err(PutFault::NoMemory),
             Call::Listed => {
+                self.put_faults += 1;
                 self.keep(name, &bytes[..bytes.len() / 2])?;
                 Err(PutFault::Failed)
             }

@@ -26,12 +26,13 @@ returns-in-Ok-write_all g c =
     let input = c.deref.result.now in
     let files = g.H.Shelf.files in
     let taken = g.O.Sink.taken in
-    let rises = g.H.Shelf.faults in
+    let gets = g.H.Shelf.get_faults in
+    let puts = g.H.Shelf.put_faults in
     let fails = g.O.Sink.faults in
     let before : World =
-    record { files = files c.args.shelf.now; taken = taken c.args.out.now; shelf_faults = rises c.args.shelf.now; sink_faults = fails c.args.out.now } in
+    record { files = files c.args.shelf.now; taken = taken c.args.out.now; get_faults = gets c.args.shelf.now; put_faults = puts c.args.shelf.now; sink_faults = fails c.args.out.now } in
     let after : World =
-    record { files = files c.get.new.self; taken = taken c.write_all.new.self; shelf_faults = rises c.get.new.self; sink_faults = fails c.write_all.new.self } in
+    record { files = files c.get.new.self; taken = taken c.write_all.new.self; get_faults = gets c.get.new.self; put_faults = puts c.get.new.self; sink_faults = fails c.write_all.new.self } in
     let is_text : c.as_bytes.result.now ≡ plan_text made.plan made.summary =
     c.as_bytes.ensures.value ∙ c.in-Ok-plan_text.ensures ∙ ap (λ (plan : List BlockPlan). plan_text plan made.summary) c.as_slice.ensures in
     of_plan (λ text. Told before.taken after.taken (Took text)) c.args.from.now before after c.in-Ok.bytes.items input made.plan made.summary
@@ -46,12 +47,13 @@ returns-in-Err-Failed-write_all g c =
     let input = c.deref.result.now in
     let files = g.H.Shelf.files in
     let taken = g.O.Sink.taken in
-    let rises = g.H.Shelf.faults in
+    let gets = g.H.Shelf.get_faults in
+    let puts = g.H.Shelf.put_faults in
     let fails = g.O.Sink.faults in
     let before : World =
-    record { files = files c.args.shelf.now; taken = taken c.args.out.now; shelf_faults = rises c.args.shelf.now; sink_faults = fails c.args.out.now } in
+    record { files = files c.args.shelf.now; taken = taken c.args.out.now; get_faults = gets c.args.shelf.now; put_faults = puts c.args.shelf.now; sink_faults = fails c.args.out.now } in
     let after : World =
-    record { files = files c.get.new.self; taken = taken c.write_all.new.self; shelf_faults = rises c.get.new.self; sink_faults = fails c.write_all.new.self } in
+    record { files = files c.get.new.self; taken = taken c.write_all.new.self; get_faults = gets c.get.new.self; put_faults = puts c.get.new.self; sink_faults = fails c.write_all.new.self } in
     let is_text : c.as_bytes.result.now ≡ plan_text made.plan made.summary =
     c.as_bytes.ensures.value ∙ c.in-Ok-plan_text.ensures ∙ ap (λ (plan : List BlockPlan). plan_text plan made.summary) c.as_slice.ensures in (
       c.in-Err-Failed-write_all.ensures.cause.cause (cc),

@@ -1,6 +1,6 @@
 use Rattle.std.proofs.Common.{◌∙◌, refl, inl, inr}
 use Rattle.lasagne.proofs.Carried.{image_for}
-use Rattle.lasagne.proofs.Endings.{longer_refused, fault_refused, translate_refused, of_image, rose_later, put_image, torn_image, took_line, took_part}
+use Rattle.lasagne.proofs.Endings.{longer_refused, fault_refused, translate_refused, of_image, rose_after, put_image, torn_image, took_line, took_part}
 use Rattle.lasagne.proofs.command.translate_command.Goals as goal
 
 pub returns-in-Err-TooLong : goal.returns-in-Err-TooLong
@@ -23,8 +23,8 @@ returns-in-Err-Failed-put g c =
     let made = c.in-Ok-translate.made in
     let input = c.deref.result.now in
     let whole = image_for input made e.private e.carries e.follows e.barriers e.jumps e.flags e.few e.summary in (
-      rose_later _ _ _ c.in-Ok.ensures.cause.later (c.in-Err-Failed-put.ensures.cause.cause (cc)),
-      of_image _ c.args.from.now (record { files = g.H.Shelf.files c.args.shelf.now; taken = g.O.Sink.taken c.args.out.now; shelf_faults = g.H.Shelf.faults c.args.shelf.now; sink_faults = g.O.Sink.faults c.args.out.now }) c.in-Ok.bytes.items input made.file c.deref.ensures.value c.in-Ok.ensures.bytes
+      rose_after _ _ _ c.in-Ok.ensures.no_put (c.in-Err-Failed-put.ensures.cause.cause (cc)),
+      of_image _ c.args.from.now (record { files = g.H.Shelf.files c.args.shelf.now; taken = g.O.Sink.taken c.args.out.now; get_faults = g.H.Shelf.get_faults c.args.shelf.now; put_faults = g.H.Shelf.put_faults c.args.shelf.now; sink_faults = g.O.Sink.faults c.args.out.now }) c.in-Ok.bytes.items input made.file c.deref.ensures.value c.in-Ok.ensures.bytes
           whole.0
           (torn_image _ _ _ c.args.to.now c.as_slice.result.now made.file c.in-Ok.ensures.same c.as_slice.ensures (c.in-Err-Failed-put.ensures.failed (cc))),
       refl,
@@ -39,7 +39,7 @@ returns-in-Ok-write_all g c =
     let made = c.in-Ok-translate.made in
     let input = c.deref.result.now in
     let whole = image_for input made e.private e.carries e.follows e.barriers e.jumps e.flags e.few e.summary in
-    of_image _ c.args.from.now (record { files = g.H.Shelf.files c.args.shelf.now; taken = g.O.Sink.taken c.args.out.now; shelf_faults = g.H.Shelf.faults c.args.shelf.now; sink_faults = g.O.Sink.faults c.args.out.now }) c.in-Ok.bytes.items input made.file c.deref.ensures.value c.in-Ok.ensures.bytes
+    of_image _ c.args.from.now (record { files = g.H.Shelf.files c.args.shelf.now; taken = g.O.Sink.taken c.args.out.now; get_faults = g.H.Shelf.get_faults c.args.shelf.now; put_faults = g.H.Shelf.put_faults c.args.shelf.now; sink_faults = g.O.Sink.faults c.args.out.now }) c.in-Ok.bytes.items input made.file c.deref.ensures.value c.in-Ok.ensures.bytes
     whole.0 (
       put_image _ _ _ c.args.to.now c.as_slice.result.now made.file c.in-Ok.ensures.same c.as_slice.ensures c.in-Ok-put.ensures.ok,
       made.summary,
@@ -54,7 +54,7 @@ returns-in-Err-Failed-write_all g c =
     let input = c.deref.result.now in
     let whole = image_for input made e.private e.carries e.follows e.barriers e.jumps e.flags e.few e.summary in (
       c.in-Err-Failed-write_all.ensures.cause.cause (cc),
-      of_image _ c.args.from.now (record { files = g.H.Shelf.files c.args.shelf.now; taken = g.O.Sink.taken c.args.out.now; shelf_faults = g.H.Shelf.faults c.args.shelf.now; sink_faults = g.O.Sink.faults c.args.out.now }) c.in-Ok.bytes.items input made.file c.deref.ensures.value c.in-Ok.ensures.bytes
+      of_image _ c.args.from.now (record { files = g.H.Shelf.files c.args.shelf.now; taken = g.O.Sink.taken c.args.out.now; get_faults = g.H.Shelf.get_faults c.args.shelf.now; put_faults = g.H.Shelf.put_faults c.args.shelf.now; sink_faults = g.O.Sink.faults c.args.out.now }) c.in-Ok.bytes.items input made.file c.deref.ensures.value c.in-Ok.ensures.bytes
           whole.0 (
             put_image _ _ _ c.args.to.now c.as_slice.result.now made.file c.in-Ok.ensures.same c.as_slice.ensures c.in-Ok-put.ensures.ok,
             made.summary,
@@ -70,7 +70,7 @@ returns g c =
     let input = c.deref.result.now in
     let whole = image_for input made e.private e.carries e.follows e.barriers e.jumps e.flags e.few e.summary in (
       c.in-Err-NoMemory-write_all.ensures.no_memory (cc),
-      inr (of_image _ c.args.from.now (record { files = g.H.Shelf.files c.args.shelf.now; taken = g.O.Sink.taken c.args.out.now; shelf_faults = g.H.Shelf.faults c.args.shelf.now; sink_faults = g.O.Sink.faults c.args.out.now }) c.in-Ok.bytes.items input made.file c.deref.ensures.value c.in-Ok.ensures.bytes
+      inr (of_image _ c.args.from.now (record { files = g.H.Shelf.files c.args.shelf.now; taken = g.O.Sink.taken c.args.out.now; get_faults = g.H.Shelf.get_faults c.args.shelf.now; put_faults = g.H.Shelf.put_faults c.args.shelf.now; sink_faults = g.O.Sink.faults c.args.out.now }) c.in-Ok.bytes.items input made.file c.deref.ensures.value c.in-Ok.ensures.bytes
           whole.0
           (put_image _ _ _ c.args.to.now c.as_slice.result.now made.file c.in-Ok.ensures.same c.as_slice.ensures c.in-Ok-put.ensures.ok)),
     )
