@@ -6,3 +6,7 @@ pub mod Spelled
 pub mod Reading
 pub mod NoFault
 pub mod MadeFile
+pub mod Places
+pub mod Standing
+pub mod Spaced
+pub mod Reached
