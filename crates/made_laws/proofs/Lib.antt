@@ -10,3 +10,5 @@ pub mod Places
 pub mod Standing
 pub mod Spaced
 pub mod Reached
+pub mod Flags
+pub mod Faultless
