@@ -1,5 +1,5 @@
 -- No fault holds of a made file.
-use Rattle.std.proofs.Common.{◌≡◌, ◌≤◌, ◌<◌, ◌+◌, ◌⊎◌, ℕ, List, arith, subst, inl, inr, ⊎_elim}
+use Rattle.std.proofs.Common.{◌≤◌, ◌<◌, ℕ, List, arith, subst, inl, inr, ⊎_elim}
 use Rattle.std.proofs.lemmas.Bool.{cases_lt}
 use Rattle.elf_read.specs.declared.fault.FileFault.{FileFault}
 use Rattle.elf_read.specs.declared.fault.FileFault.TheVariants.{TooMuchCode, BadCode, Indirect, Overlap, TableEntered, UndefinedFlag}
@@ -11,7 +11,8 @@ use Rattle.flag_use.specs.Faults as flags
 use Rattle.carry_spec.specs.Faults.{HasNoFault}
 use Rattle.gen_input.specs.Made.{made_file}
 use Rattle.made_laws.proofs.MadeFile.{made_clear}
-use Rattle.made_laws.proofs.Program.{made_program, program_made}
+use Rattle.made_laws.specs.Made.{made_program}
+use Rattle.made_laws.proofs.Program.{program_made}
 use Rattle.made_laws.proofs.Reached.{not_too_much, no_bad_code, no_indirect, no_overlap}
 use Rattle.made_laws.proofs.Flags.{no_undefined}
 

@@ -1,7 +1,6 @@
 -- No path through the made code leaves a flag undefined.
-use Rattle.std.proofs.Common.{◌≡◌, ◌≤◌, ℕ, zero, suc, ◌%◌, Bool, true, false, [], ◌∷◌, refl, sym, ◌∙◌, ap}
+use Rattle.std.proofs.Common.{◌≡◌, ◌≤◌, ℕ, ◌%◌, Bool, true, false, [], ◌∷◌, refl, sym, ◌∙◌, ap}
 use Rattle.std.proofs.lemmas.Bool.{false≢true}
-use Rattle.ev_graph.specs.Places.{StandsIn}
 use Rattle.alu_width.specs.Effects.{leaves_undefined, no_effects, sum_effects, Effects}
 use Rattle.x64_syntax.specs.declared.instr.Instr.{Instr}
 use Rattle.flag_use.specs.Instructions.{effect_on}
@@ -9,13 +8,9 @@ use Rattle.flag_use.specs.Paths.{PathTo, undefined_behind}
 use Rattle.flag_use.specs.Faults.{ReadsUndefined}
 use Rattle.flag_use.specs.Walk.{track_of, node_of}
 use Rattle.flag_use.proofs.Nodes.{Passes, edge, node_track}
-use Rattle.made_laws.proofs.Program.{made_program}
-use Rattle.made_laws.proofs.Standing.{IsMadeInstr}
+use Rattle.made_laws.specs.Made.{made_program}
+use Rattle.made_laws.proofs.Standing.{IsMadeInstr, one_stands}
 use Rattle.made_laws.proofs.Reached.{placed_made}
-
-one_stands : (x b : ℕ) → StandsIn (x ∷ []) b → b ≡ x
-one_stands x b (zero, here) = cc
-one_stands x b (suc i, here) = absurd (cc)
 
 not_true : (b : Bool) → (b ≡ true → ⊥) → b ≡ false
 not_true true other = absurd (other refl)

@@ -12,3 +12,4 @@ pub mod Spaced
 pub mod Reached
 pub mod Flags
 pub mod Faultless
+pub mod CallerLemmas

@@ -12,23 +12,11 @@ use Rattle.elf_write.proofs.ReadParts.{Begins, range_between}
 use Rattle.gen_input.specs.BuiltFile.{cells_at, built_headers, built_tables, built_sections}
 use Rattle.gen_input.specs.Made.{made_code, made_symbols, made_file}
 use Rattle.code_at.specs.Code.{Program, program_in}
+use Rattle.made_laws.specs.Made.{code_part, cells_part, made_program}
 use Rattle.made_laws.proofs.Shape.{zero_cells, up_to_cells, up_to_tables, file_of, length-front, length-up_to_cells}
 use Rattle.made_laws.proofs.Tables.{table, names}
 use Rattle.made_laws.proofs.NoFault.{IsMade, both_segments, symbols_are, names_are}
 use Rattle.made_laws.proofs.MadeFile.{is_made, length-made_code}
-
--- the segment of this code, which may be read and executed
-abbrev pub code_part : List ℕ → Part
-code_part code = record { address = 0x401000; size = length code; flags = 5; bytes = code }
-
--- that of the cells, which may be read and written
-abbrev pub cells_part : Part
-cells_part = record { address = 0x800000; size = 64; flags = 6; bytes = zero_cells }
-
--- both segments, two threads that begin with the code, and no listed call
-abbrev pub made_program : ℕ → Program
-made_program n =
-    record { parts = code_part (made_code n) ∷ cells_part ∷ []; entries = 0x401000 ∷ 0x401000 ∷ []; input = None; output = None }
 
 -- what stands between the code and the cells
 abbrev behind_code : List ℕ → List ℕ

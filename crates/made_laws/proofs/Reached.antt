@@ -1,5 +1,5 @@
 -- Of the made code no fault of reached code holds.
-use Rattle.std.proofs.Common.{◌≡◌, ◌≤◌, ◌<◌, ℕ, zero, suc, Bool, true, false, List, [], ◌∷◌, length, arith, refl, sym, ◌∙◌, ap, subst}
+use Rattle.std.proofs.Common.{◌≡◌, ◌≤◌, ◌<◌, ℕ, Bool, true, false, List, [], ◌∷◌, length, arith, refl, sym, ◌∙◌, ap, subst}
 use Rattle.std.specs.Prelude.{sum_by}
 use Rattle.std.proofs.lemmas.Bool.{false≢true}
 use Rattle.std.proofs.lemmas.List.Sums.{sum_by-cons}
@@ -17,9 +17,9 @@ use Rattle.jump_table.specs.Instructions.{Stands, compare, Sets}
 use Rattle.jump_table.specs.Pattern.{IsPattern, Begins}
 use Rattle.cfg_walk.specs.Reach.{IsReached, IsPlaced, after, end_of}
 use Rattle.cfg_walk.specs.Faults.{IsTooMuch, IsBadCode, IsIndirect, IsOverlapping, is_indirect, weight_at}
-use Rattle.made_laws.proofs.Program.{made_program}
+use Rattle.made_laws.specs.Made.{made_program}
 use Rattle.made_laws.proofs.Places.{IsPlace}
-use Rattle.made_laws.proofs.Standing.{IsMadeInstr, told}
+use Rattle.made_laws.proofs.Standing.{IsMadeInstr, told, two_stand}
 use Rattle.made_laws.proofs.Spaced.{few_places}
 
 -- the instruction that stands at a place is the told one
@@ -86,14 +86,9 @@ no_pattern n a few at table begins = no_pattern_at n few table begins.target beg
 
 -- ---- what is reached
 
-entry_is : (b : ℕ) → StandsIn (0x401000 ∷ 0x401000 ∷ []) b → b ≡ 0x401000
-entry_is b (zero, here) = cc
-entry_is b (suc zero, here) = cc
-entry_is b (suc (suc i), here) = absurd (cc)
-
 -- instructions begin at all addresses that are reached
 pub reached_place : (n : ℕ) → n ≤ 20000 → {a : ℕ} → IsReached (made_program n) a → IsPlace n a
-reached_place n few (IsReached.at-entry {a} stands) = IsPlace.head (entry_is a stands)
+reached_place n few (IsReached.at-entry {a} stands) = IsPlace.head (two_stand 0x401000 a stands)
 reached_place n few (IsReached.at-next {a} {b} p reached stands next) =
     let at = reached_place n few reached in
     let to = told n a few at in

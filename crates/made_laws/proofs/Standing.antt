@@ -15,9 +15,9 @@ use Rattle.code_at.specs.Code.{memory_bytes, code_from, StandsAt, flow_of, targe
 use Rattle.cfg_walk.specs.Reach.{after, successors}
 use Rattle.gen_input.specs.Made.{cells_to_rdi, store, load, locked_add, fence_and_jump, return, round_code, rounds_code, made_code}
 use Rattle.gen_input.proofs.Rounds.{length_rounds}
-use Rattle.made_laws.proofs.Program.{code_part, cells_part, made_program}
+use Rattle.made_laws.specs.Made.{code_part, cells_part, made_program}
 use Rattle.made_laws.proofs.Spelled.{cells_instr, store_instr, load_instr, add_instr, jump_instr, fence, jump, cells_spelled, store_spelled, load_spelled, add_spelled, fence_spelled, jump_spelled, return_spelled}
-use Rattle.made_laws.proofs.Places.{IsOffset, IsPlace, place_of, IsShort, round_is, length-more, code_split, length-before, ends_before}
+use Rattle.made_laws.proofs.Places.{IsOffset, IsPlace, place_of, IsShort, RoundIs, round_is, length-more, code_split, length-before, ends_before}
 
 -- ---- the bytes from an address on
 
@@ -82,11 +82,13 @@ pub record IsTold (n a : ℕ) : Type 0 where
   pub apart : (b : ℕ) → IsPlace n b → a < b → a + p.length ≤ b
   pub spaced : (b : ℕ) → IsPlace n b → a < b → a + 2 ≤ b
 
-one_stands : (x b : ℕ) → StandsIn (x ∷ []) b → b ≡ x
+-- the one of a list of one
+pub one_stands : (x b : ℕ) → StandsIn (x ∷ []) b → b ≡ x
 one_stands x b (zero, here) = cc
 one_stands x b (suc i, here) = absurd (cc)
 
-two_stand : (x b : ℕ) → StandsIn (x ∷ x ∷ []) b → b ≡ x
+-- both of a list of two that are the same
+pub two_stand : (x b : ℕ) → StandsIn (x ∷ x ∷ []) b → b ≡ x
 two_stand x b (zero, here) = cc
 two_stand x b (suc zero, here) = cc
 two_stand x b (suc (suc i), here) = absurd (cc)
@@ -191,7 +193,7 @@ differ : (xs ys : List ℕ) → (length xs ≡ length ys → ⊥) → xs ≡ ys 
 differ xs ys other same = other (ap length same)
 
 -- the first instruction of a round
-told_first : (n j : ℕ) → j < n → (round_code j ≡ store) ⊎ ((round_code j ≡ load) ⊎ ((round_code j ≡ locked_add) ⊎ (round_code j ≡ fence_and_jump))) → IsTold n (place_of j 0)
+told_first : (n j : ℕ) → j < n → RoundIs (round_code j) → IsTold n (place_of j 0)
 told_first n j less (inl is) =
     told_round n j store store_instr less is (lit< tt) (omega arith) (differ store fence_and_jump (λ e. omega (arith, e))) store_spelled (λ end. refl) IsMadeInstr.stores (λ end. refl)
 told_first n j less (inr (inl is)) =
