@@ -1,6 +1,15 @@
 pub mod Headers
 pub mod Shape
 pub mod Tables
+pub mod Program
+pub mod Spelled
 pub mod Reading
 pub mod NoFault
 pub mod MadeFile
+pub mod Places
+pub mod Standing
+pub mod Spaced
+pub mod Reached
+pub mod Flags
+pub mod Faultless
+pub mod CallerLemmas

@@ -34,7 +34,7 @@ cells_count = refl
 length-headers : (code : List ℕ) → length (built_headers (length code) 64 0x800000) ≡ 176
 length-headers code = refl
 
-length-front : (code : List ℕ) → length (padded (built_headers (length code) 64 0x800000) 4096) ≡ 4096
+pub length-front : (code : List ℕ) → length (padded (built_headers (length code) 64 0x800000) 4096) ≡ 4096
 length-front code = length-padded (built_headers (length code) 64 0x800000) 4096 (omega (arith, length-headers code))
 
 pub length-up_to_cells : (code : List ℕ) → length (up_to_cells code) ≡ cells_at (length code)
