@@ -7,18 +7,15 @@ use Rattle.lz_ports.specs.Ports.{Files, Rose, IsPut, IsTorn, IsLonger, Told, Too
 use Rattle.elf_read.specs.declared.fault.FileFault.{FileFault}
 use Rattle.elf_read.specs.declared.fault.FileFault.TheVariants as file
 use Rattle.elf_read.specs.FirstFault.{rank, Before}
-use Rattle.cfg_walk.specs.declared.code.Code.{Code}
 use Rattle.carry_spec.specs.declared.plan.BlockPlan.{BlockPlan}
 use Rattle.carry_spec.specs.declared.summary.Summary.{Summary}
 use Rattle.carry_spec.specs.Faults.{IsRefusedFor}
-use Rattle.lasagne.specs.Image.{IsImageFor}
-use Rattle.lasagne.specs.Command.{World, EndsPlan, EndsTranslate, IsSaid, OfImage, OfPlan, SameFiles, SameTaken, IsRefusal}
+use Rattle.gen_input.specs.Made.{made_file}
+use Rattle.made_laws.proofs.CallerLemmas.{no_fault_made}
+use Rattle.lasagne.specs.Image.{IsImageFor, HasSummary}
+use Rattle.lasagne.specs.Command.{World, EndsPlan, EndsPut, EndsTranslate, EndsWritten, IsSaid, IsUnder, OfPlan, SameFiles, SameTaken, IsRefusal}
 use Rattle.lasagne.specs.Plan.{HasPlan, plan_text}
-use Rattle.lasagne.specs.Texts.{refused_line}
-
--- a count that rose after it stayed rose
-pub rose_after : (a b c : ℕ) → b ≡ a → Rose b c → Rose a c
-rose_after a b c same rose = omega (arith, same, rose)
+use Rattle.lasagne.specs.Texts.{refused_line, translated_line}
 
 -- a file that is too long has that fault first
 longer_is_first : (bytes : List ℕ) → 67108864 < length bytes → IsRefusedFor bytes file.TooLong
@@ -64,19 +61,65 @@ pub plan_refused : (result : Status) (from : List ℕ) (old new : World) (why : 
     → IsSaid (refused_line why) status.Refused old.taken old.sink_faults new.taken new.sink_faults result → EndsPlan result from old new
 plan_refused result from old new why = refused (λ s. EndsPlan s from old new) result from old new why (λ is. is) (λ none. none)
 
--- an image that was made of what was read
-pub of_image : (P : List ℕ → Code → List ℕ → Type 0) (from : List ℕ) (old : World) (items input image : List ℕ) → input ≡ items
-    → IfSome old.files (λ f. f from ≡ Some items) → (is : IsImageFor input image) → P input is.carries.code image → OfImage from old P
-of_image P from old items input image same read is holds = (input, image, is, read_same old.files from items input same read, holds)
+-- a made file is refused for no fault
+pub never_refused : (rounds : ℕ) → 1 ≤ rounds → rounds ≤ 20000 → (input : List ℕ) → input ≡ made_file rounds → (why : FileFault) → IsRefusedFor input why → ⊥
+never_refused rounds some few input same why refused =
+    let first : IsRefusedFor (made_file rounds) why = subst (λ b. IsRefusedFor b why) same refused in
+    no_fault_made rounds some few why first.from first.below first.holds
 
--- what a `put` after a `get` left, as seen from before both
-pub put_image : (old read new : Option Files) (to bytes image : List ℕ) → read ≡ old → bytes ≡ image → Told read new (IsPut to bytes) → Told old new (IsPut to image)
-put_image old read new to bytes image same file told =
-    subst (λ (fs : Option Files). Told fs new (IsPut to image)) same (subst (λ (b : List ℕ). Told read new (IsPut to b)) file told)
+-- ---- an image that is put
 
-pub torn_image : (old read new : Option Files) (to bytes image : List ℕ) → read ≡ old → bytes ≡ image → Told read new (IsTorn to bytes) → Told old new (IsTorn to image)
-torn_image old read new to bytes image same file told =
-    subst (λ (fs : Option Files). Told fs new (IsTorn to image)) same (subst (λ (b : List ℕ). Told read new (IsTorn to b)) file told)
+-- what a `put` left, as seen from before an earlier call that left all alone but the count of failed gets
+pub written_before : (result : Status) (image to text : List ℕ) (old read new : World) → read.files ≡ old.files → read.taken ≡ old.taken → read.put_faults ≡ old.put_faults
+    → read.sink_faults ≡ old.sink_faults → EndsWritten result image to text read new → EndsWritten result image to text old new
+written_before result image to text old read new files taken puts fails = by result
+  where
+    told : (P : Files → Files → Type 0) → Told read.files new.files P → Told old.files new.files P
+    told P is = subst (λ (fs : Option Files). Told fs new.files P) files is
+
+    took : (P : List ℕ → List ℕ → Type 0) → Told read.taken new.taken P → Told old.taken new.taken P
+    took P is = subst (λ (t : Option (List ℕ)). Told t new.taken P) taken is
+
+    by : (s : Status) → EndsWritten s image to text read new → EndsWritten s image to text old new
+    by status.Done is = (told (IsPut to image) is.0, took (Took text) is.1)
+    by status.WriteFailed is = (subst (λ (n : ℕ). Rose n new.put_faults) puts is.0, told (IsTorn to image) is.1, is.2 ∙ taken)
+    by status.OutFailed is = (subst (λ (n : ℕ). Rose n new.sink_faults) fails is.0, told (IsPut to image) is.1, took (TookPart text) is.2)
+    by status.NoMemory (same, inl untouched) = (same ∙ taken, inl (untouched ∙ files))
+    by status.NoMemory (same, inr put) = (same ∙ taken, inr (told (IsPut to image) put))
+    by status.Refused is = is
+    by status.Usage is = is
+    by status.ReadFailed is = is
+    by status.NotExplained is = is
+
+-- an image of such an input that was put so
+pub put_ends : (result : Status) (IsInput : List ℕ → Type 0) (input image to text : List ℕ) (summary : Summary) (line : Summary → List ℕ) (old new : World)
+    → IsInput input → (is : IsImageFor input image) → HasSummary input is.carries.code summary → text ≡ line summary
+    → EndsWritten result image to text old new → EndsPut result IsInput to line old new
+put_ends result IsInput input image to text summary line old new of is counted same = by result
+  where
+    by : (s : Status) → EndsWritten s image to text old new → EndsPut s IsInput to line old new
+    by status.Done ends = (input, image, is, of, (ends.0, summary, counted, subst (λ (t : List ℕ). Told old.taken new.taken (Took t)) same ends.1))
+    by status.WriteFailed ends = (ends.0, (input, image, is, of, ends.1), ends.2)
+    by status.OutFailed ends =
+        (ends.0, (input, image, is, of, (ends.1, summary, counted, subst (λ (t : List ℕ). Told old.taken new.taken (TookPart t)) same ends.2)))
+    by status.NoMemory (untaken, inl untouched) = (untaken, inl untouched)
+    by status.NoMemory (untaken, inr put) = (untaken, inr (input, image, is, of, put))
+    by status.Refused ends = ends
+    by status.Usage ends = ends
+    by status.ReadFailed ends = ends
+    by status.NotExplained ends = ends
+
+-- `translate` ends so too
+pub translate_ends : (result : Status) (from to : List ℕ) (old new : World) → EndsPut result (IsUnder from old) to translated_line old new
+    → EndsTranslate result from to old new
+translate_ends status.Done from to old new ends = ends
+translate_ends status.WriteFailed from to old new ends = ends
+translate_ends status.OutFailed from to old new ends = ends
+translate_ends status.NoMemory from to old new ends = ends
+translate_ends status.Refused from to old new ends = absurd ends
+translate_ends status.Usage from to old new ends = ends
+translate_ends status.ReadFailed from to old new ends = absurd ends
+translate_ends status.NotExplained from to old new ends = ends
 
 -- what was written is the line
 pub took_line : (old new : Option (List ℕ)) (text written : List ℕ) → text ≡ written → Told old new (Took text) → Told old new (Took written)

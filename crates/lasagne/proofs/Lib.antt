@@ -1,3 +1,4 @@
 pub mod Carried
 pub mod Endings
 pub mod PlanLemmas
+pub mod RoundLemmas

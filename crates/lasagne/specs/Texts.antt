@@ -62,3 +62,10 @@ summary_text s = counts_text (
 
 abbrev pub translated_line : Summary → List ℕ
 translated_line s = line (codes "translated " ++ summary_text s)
+
+-- the name under which the image of a made file is put
+abbrev pub try_name : List ℕ
+try_name = codes "try.elf"
+
+abbrev pub tried_line : ℕ → Summary → List ℕ
+tried_line rounds s = line (codes "tried " ++ (decimal rounds ++ (codes ": " ++ summary_text s)))

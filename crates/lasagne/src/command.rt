@@ -1,12 +1,15 @@
 ghost use Rattle.std.specs.Prelude.{◌≡◌, ◌≢◌, codes, MatchBool};
-ghost use Rattle.lasagne.specs.Command.{World, Answers, EndsPlan, EndsTranslate, IsSaid};
+ghost use Rattle.lasagne.specs.Command.{World, Answers, EndsPlan, EndsTranslate, EndsTry, EndsWritten, IsSaid};
+ghost use Rattle.lasagne.specs.Shape.{AreRounds};
 ghost use Rattle.lasagne.specs.Texts.{refused_line};
 ghost use Rattle.lasagne.specs.declared.command.Status.TheVariants.{Refused};
 
 use crate::plan::plan_text;
-use crate::texts::{USAGE, refused_line, translated_line};
+use crate::rounds::rounds_of;
+use crate::texts::{USAGE, refused_line, translated_line, tried_line};
 use crate::word::Word;
 use elf_read::{FileFault, TransFault};
+use gen_input::make;
 use lz_ports::{GetFault, PutFault, Shelf, Sink, SinkFault};
 use std::alloc::Global;
 use translate_core::translate;
@@ -27,6 +30,9 @@ pub enum Status {
 /// How many bytes of an input are read at most.
 const INPUT_LIMIT: u64 = 67_108_864;
 
+/// The name under which the image of a made file is put.
+const TRY_NAME: &str = "try.elf";
+
 fn is_translate(word: &Word) -> bool
     ensures { MatchBool result (word.now ≡ codes "translate") (word.now ≢ codes "translate") }
 {
@@ -37,6 +43,12 @@ fn is_plan(word: &Word) -> bool
     ensures { MatchBool result (word.now ≡ codes "plan") (word.now ≢ codes "plan") }
 {
     word.as_str() == "plan"
+}
+
+fn is_try(word: &Word) -> bool
+    ensures { MatchBool result (word.now ≡ codes "try") (word.now ≢ codes "try") }
+{
+    word.as_str() == "try"
 }
 
 /// Writes a line that tells how the call ends. What the call ends with stands even where the write
@@ -57,6 +69,30 @@ fn refuse<O: Sink>(alloc: Global, out: &mut O, fault: FileFault) -> Status
     match refused_line(alloc, fault) {
         Ok(line) => say(out, line.as_bytes(), Status::Refused),
         Err(_) => Status::NoMemory,
+    }
+}
+
+/// Puts an image under a name, and then writes a line.
+fn put_image<H: Shelf, O: Sink>(
+    image: &[u8],
+    to: &str,
+    line: &[u8],
+    shelf: &mut H,
+    out: &mut O,
+) -> Status
+    ensures { EndsWritten result image.now to.now line.now
+        (record { files = H.files shelf.old; taken = O.taken out.old; get_faults = H.get_faults shelf.old; put_faults = H.put_faults shelf.old; sink_faults = O.faults out.old })
+        (record { files = H.files shelf.new; taken = O.taken out.new; get_faults = H.get_faults shelf.new; put_faults = H.put_faults shelf.new; sink_faults = O.faults out.new }) }
+{
+    match shelf.put(to, image) {
+        Ok(()) => {}
+        Err(PutFault::Failed) => return Status::WriteFailed,
+        Err(PutFault::NoMemory) => return Status::NoMemory,
+    }
+    match out.write_all(line) {
+        Ok(()) => Status::Done,
+        Err(SinkFault::Failed) => Status::OutFailed,
+        Err(SinkFault::NoMemory) => Status::NoMemory,
     }
 }
 
@@ -86,16 +122,28 @@ fn translate_command<H: Shelf, O: Sink>(
     let Ok(line) = translated_line(alloc, made.summary) else {
         return Status::NoMemory;
     };
-    match shelf.put(to, made.file.as_slice()) {
-        Ok(()) => {}
-        Err(PutFault::Failed) => return Status::WriteFailed,
-        Err(PutFault::NoMemory) => return Status::NoMemory,
-    }
-    match out.write_all(line.as_bytes()) {
-        Ok(()) => Status::Done,
-        Err(SinkFault::Failed) => Status::OutFailed,
-        Err(SinkFault::NoMemory) => Status::NoMemory,
-    }
+    put_image(made.file.as_slice(), to, line.as_bytes(), shelf, out)
+}
+
+/// Makes the file of so many rounds, translates it, and puts its image. A made file has no fault.
+fn try_command<H: Shelf, O: Sink>(alloc: Global, rounds: u32, shelf: &mut H, out: &mut O) -> Status
+    requires { AreRounds rounds }
+    ensures { EndsTry result rounds
+        (record { files = H.files shelf.old; taken = O.taken out.old; get_faults = H.get_faults shelf.old; put_faults = H.put_faults shelf.old; sink_faults = O.faults out.old })
+        (record { files = H.files shelf.new; taken = O.taken out.new; get_faults = H.get_faults shelf.new; put_faults = H.put_faults shelf.new; sink_faults = O.faults out.new }) }
+{
+    let Ok(input) = make(alloc, rounds) else {
+        return Status::NoMemory;
+    };
+    let made = match translate(alloc, &input) {
+        Ok(made) => made,
+        Err(TransFault::File(_why)) => unreachable!(),
+        Err(TransFault::NoMemory) => return Status::NoMemory,
+    };
+    let Ok(line) = tried_line(alloc, rounds, made.summary) else {
+        return Status::NoMemory;
+    };
+    put_image(made.file.as_slice(), TRY_NAME, line.as_bytes(), shelf, out)
 }
 
 /// Writes the fence plan of the file under a name, and puts nothing.
@@ -129,7 +177,8 @@ fn plan_command<H: Shelf, O: Sink>(alloc: Global, from: &str, shelf: &mut H, out
 ///
 /// `translate IN OUT` translates the file under the name IN, puts its image under the name OUT, and
 /// writes a line that sums it up. `plan IN` writes the fence plan of the file under the name IN, and
-/// puts nothing.
+/// puts nothing. `try N` makes an input file of N rounds, puts its image under the name `try.elf`, and
+/// writes a line that sums it up.
 pub fn run<H: Shelf, O: Sink>(alloc: Global, words: &[Word], shelf: &mut H, out: &mut O) -> Status
     ensures { Answers result words.now
         (record { files = H.files shelf.old; taken = O.taken out.old; get_faults = H.get_faults shelf.old; put_faults = H.put_faults shelf.old; sink_faults = O.faults out.old })
@@ -140,6 +189,10 @@ pub fn run<H: Shelf, O: Sink>(alloc: Global, words: &[Word], shelf: &mut H, out:
             translate_command(alloc, from.as_str(), to.as_str(), shelf, out)
         }
         [verb, from] if is_plan(verb) => plan_command(alloc, from.as_str(), shelf, out),
+        [verb, number] if is_try(verb) => match rounds_of(number) {
+            Some(rounds) => try_command(alloc, rounds, shelf, out),
+            None => say(out, USAGE, Status::Usage),
+        },
         _ => say(out, USAGE, Status::Usage),
     }
 }

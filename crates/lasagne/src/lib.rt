@@ -5,6 +5,7 @@
 
 mod command;
 mod plan;
+mod rounds;
 #[cfg(test)]
 mod tests;
 mod texts;

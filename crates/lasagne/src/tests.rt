@@ -1,4 +1,5 @@
 mod plan;
+mod trying;
 
 use crate::{Status, Word, run};
 use elf_format::Symbol;

@@ -1,5 +1,5 @@
 ghost use Rattle.std.specs.Prelude.{◌≡◌, ◌≢◌, ◌++◌, codes, decimal, map, IfOk, OnOk, string_bytes};
-ghost use Rattle.lasagne.specs.Texts.{counts_text, file_fault_text, hex, kind_name, refused_line, summary_text, translated_line};
+ghost use Rattle.lasagne.specs.Texts.{counts_text, file_fault_text, hex, kind_name, refused_line, summary_text, translated_line, tried_line};
 
 use elf_read::{BadCodeKind, CodeFault, FileFault};
 use std::alloc::{AllocError, Global};
@@ -48,6 +48,16 @@ pub fn translated_line(alloc: Global, s: Summary) -> Result<String, AllocError>
     ensures { IfOk result (λ text. string_bytes text ≡ translated_line s) }
 {
     let mut text = String::from_str(alloc, "translated ")?;
+    push_summary(alloc, &mut text, s)?;
+    text.push_str("\n")?;
+    Ok(text)
+}
+
+/// The line that tells of the translation of a made file.
+pub fn tried_line(alloc: Global, rounds: u32, s: Summary) -> Result<String, AllocError>
+    ensures { IfOk result (λ text. string_bytes text ≡ tried_line rounds s) }
+{
+    let mut text = format!(in alloc; "tried {rounds}: ")?;
     push_summary(alloc, &mut text, s)?;
     text.push_str("\n")?;
     Ok(text)

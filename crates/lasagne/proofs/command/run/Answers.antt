@@ -1,6 +1,6 @@
 use Rattle.std.proofs.Common.{◌≡◌, ◌∙◌, ap, sym, List, ℕ, [], ◌∷◌, inl}
 use Rattle.std.specs.Prelude.{codes}
-use Rattle.lasagne.specs.Shape.{Translate, Plan, words_of}
+use Rattle.lasagne.specs.Shape.{Translate, Plan, Try, words_of}
 use Rattle.lasagne.proofs.Endings.{two, three}
 use Rattle.lasagne.proofs.command.run.Goals as goal
 
@@ -22,3 +22,12 @@ returns-in-len3 g c =
     ∙ ap (λ (from : List ℕ). codes "translate" ∷ from ∷ c.to-item.result ∷ []) (sym c.as_str-in-len3.ensures)
     ∙ ap (λ (to : List ℕ). codes "translate" ∷ c.as_str-in-len3.result.now ∷ to ∷ []) (sym c.as_str-in-len3-2.ensures) in
     inl (Translate c.as_str-in-len3.result.now c.as_str-in-len3-2.result.now, shape, c.translate_command.ensures)
+
+pub returns-in-Some : goal.returns-in-Some
+returns-in-Some g c =
+    let words : c.args.words.now ≡ c.verb-item-then-words-lt3.result ∷ c.number-item.result ∷ [] =
+    two c.args.words.now _ _ c.in-len2.len_at_least c.in-len2.len_below c.verb-item-then-words-lt3.is c.number-item.is in
+    let rounds = c.in-Some.ensures in
+    let shape : c.args.words.now ≡ words_of (Try c.in-Some.rounds rounds.0) =
+    words ∙ ap (λ (verb : List ℕ). verb ∷ c.number-item.result ∷ []) c.if-is_try.ensures ∙ ap (λ (number : List ℕ). codes "try" ∷ number ∷ []) rounds.1 in
+    inl (Try c.in-Some.rounds rounds.0, shape, c.try_command.ensures)
