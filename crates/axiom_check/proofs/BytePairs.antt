@@ -31,7 +31,7 @@ co_pair co a b i j k m a_writes b_writes here there in_a in_b same before = reco
   overlap = (a.address + k, (omega arith, omega arith), (omega arith, omega arith));
 }
 
-overwritten : (co : List EventId) (source : Source) (place j : ℕ) (b : Access) → IsFrom co source place → place ≤ j → slice_get co j ≡ Some b.id → Overwrites co (event b) source
+pub overwritten : (co : List EventId) (source : Source) (place j : ℕ) (b : Access) → IsFrom co source place → place ≤ j → slice_get co j ≡ Some b.id → Overwrites co (event b) source
 overwritten co Start place j b from before there = tt
 overwritten co (From w) place j b (i, here, is) before there = record { i = i; j = j; order = omega arith; first = here; second = there }
 

@@ -13,3 +13,6 @@ pub mod LastFences
 pub mod Ordering
 pub mod DoorsBack
 pub mod StoreBufferingJudged
+pub mod AtomicLemmas
+pub mod AccessOrder
+pub mod AtomicTriples

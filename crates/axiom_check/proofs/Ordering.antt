@@ -38,7 +38,7 @@ answered_as items events R S to from None (a, via, round) = (a, via, same_pairs 
 answered_as items events R S to from (Some order) is = record { below = is.below; each = is.each; once = is.once; forward = λ a b pair. is.forward a b (from a b pair) }
 
 -- what stands at a place of an image stands there in the list
-image_at : {A B : Type 0} (f : A → B) (xs : List A) (i : ℕ) (y : B) → slice_get (map f xs) i ≡ Some y → (x : A) × (slice_get xs i ≡ Some x) × (f x ≡ y)
+pub image_at : {A B : Type 0} (f : A → B) (xs : List A) (i : ℕ) (y : B) → slice_get (map f xs) i ≡ Some y → (x : A) × (slice_get xs i ≡ Some x) × (f x ≡ y)
 image_at f [] i y here = absurd cc
 image_at f (x ∷ xs) zero y here = (x, refl, cc)
 image_at f (x ∷ xs) (suc i) y here = image_at f xs i y here
@@ -57,7 +57,7 @@ event_of (Some a) = event a
 event_of None = record { id = record { thread = 0; index = 0 }; kind = Read; locked = false; address = 0; size = 0 }
 
 -- an access of all is an event of the threads
-event_in : (threads : List ThreadRun) (all : List Access) → IsIndexed threads → all ≡ all_accesses threads → (n : ℕ) (a : Access) → slice_get all n ≡ Some a → IsIn threads (event a)
+pub event_in : (threads : List ThreadRun) (all : List Access) → IsIndexed threads → all ≡ all_accesses threads → (n : ℕ) (a : Access) → slice_get all n ≡ Some a → IsIn threads (event a)
 event_in threads all indexed same n a here =
     let (t, m, at) = from_all threads a (n, subst (λ (l : List Access). slice_get l n ≡ Some a) same here) in
     (access_in threads indexed (record { thread = t; index = m }) a at).0
@@ -80,7 +80,7 @@ cycle_of x all R indexed same (n, via, round) =
           subst (λ (e : Event). Among x.threads R e (event_of (slice_get all j))) (sym first) (subst (λ (e : Event). Among x.threads R (event told.first) e) (sym second) among)
 
 -- an event and its number
-numbered_event : (x : Execution) (all : List Access) → IsIndexed x.threads → all ≡ all_accesses x.threads → (a : Event) → IsIn x.threads a
+pub numbered_event : (x : Execution) (all : List Access) → IsIndexed x.threads → all ≡ all_accesses x.threads → (a : Event) → IsIn x.threads a
     → (n : ℕ) × (access : Access) × (slice_get all n ≡ Some access) × (event access ≡ a)
 numbered_event x all indexed same a is =
     let (access, found, is_event) = access_of x.threads a is in

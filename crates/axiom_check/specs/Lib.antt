@@ -5,3 +5,4 @@ pub mod Bytes
 pub mod Gates
 pub mod External
 pub mod Ordered
+pub mod Atomic

@@ -125,7 +125,7 @@ fn set_place(events: &Events, places: &mut Vec<u32>, id: EventId, behind: u32)
 }
 
 /// The place in co from which on writes overwrite what comes from the source.
-fn start_of(events: &Events, places: &[u32], source: Source) -> u32
+pub fn start_of(events: &Events, places: &[u32], source: Source) -> u32
     requires { AreNumbered events.now.accesses.items events.now.firsts.items }
     ensures { (co : List AnyId) → ArePlaces events.now.accesses.items co (length co) places.now → IsKnown events.now.accesses.items co source → IsFrom co source result }
 {

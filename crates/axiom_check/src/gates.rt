@@ -99,13 +99,13 @@ fn kind_of_opening(opening: Opening) -> FenceKind
     }
 }
 
-fn reads(access: &Access) -> bool
+pub fn reads(access: &Access) -> bool
     ensures { IsTrue result ↔ (access.now.kind ≡ kind.Read) }
 {
     access.kind == AccessKind::Read
 }
 
-fn writes(access: &Access) -> bool
+pub fn writes(access: &Access) -> bool
     ensures { IsTrue result ↔ (access.now.kind ≡ kind.Write) }
 {
     access.kind == AccessKind::Write

@@ -49,7 +49,7 @@ fn is_of_lane(slots: &[Slot], place: usize, key: u128) -> bool
 }
 
 /// The first place whose key is no less.
-fn first_at(slots: &[Slot], key: u128) -> usize
+pub fn first_at(slots: &[Slot], key: u128) -> usize
     requires { IsRising slots.now }
     ensures within { result ≤ length slots.now }
     ensures first { IsFirstAt slots.now key result }
@@ -133,7 +133,7 @@ fn push_entries(
 }
 
 /// The slots in the order of their keys.
-fn sorted(slots: Vec<Slot>) -> Result<Vec<Slot>, NoMemory>
+pub fn sorted(slots: Vec<Slot>) -> Result<Vec<Slot>, NoMemory>
     ensures rising { IfOk result (λ sorted. IsRising sorted.items) }
     ensures same { IfOk result (λ sorted. (s : AnySlot) → StandsIn sorted.items s ↔ StandsIn slots.items s) }
 {

@@ -3,6 +3,7 @@
 //! Source: herding cats (Alglave, Maranget, Tautschnig, TOPLAS 2014), by frontiers of threads and bytes.
 #![tactic(auto)]
 
+mod atomic;
 mod bytes;
 mod doors;
 mod event_order;
